@@ -18,7 +18,7 @@ use Rattle.vw_prog.specs.declared.job.Job.{Job}
 use Rattle.vw_prog.specs.Due.{is_source, own_latches, recorded}
 use Rattle.vw_prog.specs.Scripts.{planned_of, state_at, value_at}
 use Rattle.vw_node.specs.declared.node.Node.{Node}
-use Rattle.vw_node.specs.Fits.{bit_by, bit_in}
+use Rattle.vw_node.specs.Fits.{bit_by, bit_at_slot}
 use Rattle.vw_node.specs.Starts.{net_count}
 use Rattle.vw_node.proofs.SlotBits.{bits_are}
 use Rattle.vw_plan.specs.declared.checked.Checked.{Checked}
@@ -158,7 +158,8 @@ module _ (job : Job) where
     pub done_node : IsDoneNode job there.share.node there
     done_node = record {
       numbers = code.numbers;
-      rows = finished.holds.told ∙ ap (tabulate (λ clock. map (value_at job clock) (recorded planned there.share.node))) finished.clock;
+      rows = sym (take_all there.clock there.rows (omega (arith, finished.fits.count, finished.clock))) ∙ finished.holds.told
+          ∙ ap (tabulate (λ clock. map (value_at job clock) (recorded planned there.share.node))) finished.clock;
       last = bits_are there.code.now.nets.items there.slots.items own_nets there.code.now.latches.items code.latches
           ∙ map_among (bit_by there.code.now.nets.items there.slots.items) (value_at job (length job.rows)) own_nets own_bit;
     }
@@ -168,19 +169,19 @@ module _ (job : Job) where
   chip_nets node chip = ap (λ (host : Bool). if host then flat.outputs else own_latches planned node) (ne_eqb node 0 (λ same. absurd (omega (arith, chip, same))))
 
   module _ (node : ℕ) (there : Node) (is_done : IsDoneNode job node there) where
-    pub row_at_clock : (clock : ℕ) → clock < length job.rows → get_or there.rows.items clock [] ≡ map (value_at job clock) (recorded planned node)
+    pub row_at_clock : (clock : ℕ) → clock < length job.rows → get_or there.rows clock [] ≡ map (value_at job clock) (recorded planned node)
     row_at_clock clock within =
         ap (λ (rows : List (List Bool)). get_or rows clock []) is_done.rows
         ∙ get_or-tabulate (λ clock. map (value_at job clock) (recorded planned node)) (length job.rows) clock [] within
 
-    pub rows_count : length there.rows.items ≡ length job.rows
+    pub rows_count : length there.rows ≡ length job.rows
     rows_count = ap (λ (rows : List (List Bool)). length rows) is_done.rows ∙ length-tabulate (λ clock. map (value_at job clock) (recorded planned node)) (length job.rows)
 
   -- ---- the outputs
 
-  pub outputs_told : (there : Node) → IsDoneNode job 0 there → there.rows.items ≡ outputs_of flat job.start job.rows
+  pub outputs_told : (there : Node) → IsDoneNode job 0 there → there.rows ≡ outputs_of flat job.start job.rows
   unfolding value_at
-  outputs_told there is_done = same_lists there.rows.items (outputs_of flat job.start job.rows) [] (rows_count 0 there is_done ∙ sym (length-outputs_of flat job.start job.rows)) (λ clock below.
+  outputs_told there is_done = same_lists there.rows (outputs_of flat job.start job.rows) [] (rows_count 0 there is_done ∙ sym (length-outputs_of flat job.start job.rows)) (λ clock below.
       let within : clock < length job.rows = omega (arith, below, rows_count 0 there is_done) in
       row_at_clock 0 there is_done clock within ∙ sym (outputs_are flat job.start job.rows clock within))
 
@@ -241,26 +242,26 @@ module _ (job : Job) where
     within_rows done rows have clock none below place default within =
         omega (arith, each_within place default within, (have.each clock below).wide, ap (λ (bits : List Bool). length bits) (get_or_default rows clock none [] below))
 
-    pub bits_wide : All (λ bits. length bits ≡ length there.code.now.numbers.items) there.rows.items
+    pub bits_wide : All (λ bits. length bits ≡ length there.code.now.numbers.items) there.rows
     bits_wide clock none below =
         let early : clock < length job.rows = omega (arith, below, rows_count node there is_done) in
-        ap (λ (bits : List Bool). length bits) (get_or_default there.rows.items clock none [] below ∙ row_at_clock node there is_done clock early ∙ ap (map (value_at job clock)) (chip_nets node chip))
+        ap (λ (bits : List Bool). length bits) (get_or_default there.rows clock none [] below ∙ row_at_clock node there is_done clock early ∙ ap (map (value_at job clock)) (chip_nets node chip))
         ∙ length-map (own_latches planned node) (value_at job clock) ∙ sym (length-map (own_latches planned node) (latch_number job)) ∙ sym (ap (λ (list : List ℕ). length list) is_done.numbers)
 
     pub latches_long : length there.code.now.latches.items ≡ length there.code.now.numbers.items
     latches_long =
-        sym (length-map there.code.now.latches.items (bit_in there.slots.items)) ∙ ap (λ (bits : List Bool). length bits) is_done.last
+        sym (length-map there.code.now.latches.items (bit_at_slot there.slots.items)) ∙ ap (λ (bits : List Bool). length bits) is_done.last
         ∙ length-map (own_latches planned node) (value_at job (length job.rows)) ∙ sym (length-map (own_latches planned node) (latch_number job)) ∙ sym (ap (λ (list : List ℕ). length list) is_done.numbers)
 
     pub rows_more : (rows new : List (List Bool)) → HaveLatches job node rows → length new ≡ length rows
-        → ((clock : ℕ) → clock < length new → get_or new clock [] ≡ with_latches there.code.now.numbers.items (get_or there.rows.items clock []) (get_or rows clock [])) → HaveLatches job (node + 1) new
+        → ((clock : ℕ) → clock < length new → get_or new clock [] ≡ with_latches there.code.now.numbers.items (get_or there.rows clock []) (get_or rows clock [])) → HaveLatches job (node + 1) new
     rows_more rows new have count each = record {
       count = count ∙ have.count;
       each = λ clock within.
           let low : clock < length rows = omega (arith, within, count) in
-          row_more clock node there.code.now.numbers.items (get_or there.rows.items clock []) (get_or rows clock []) (get_or new clock []) (have.each clock low) is_done.numbers
+          row_more clock node there.code.now.numbers.items (get_or there.rows clock []) (get_or rows clock []) (get_or new clock []) (have.each clock low) is_done.numbers
           (row_at_clock node there is_done clock (omega (arith, low, have.count)) ∙ ap (map (value_at job clock)) (chip_nets node chip)) (each clock within);
     }
 
-    pub last_more : (row new : List Bool) → HasLatches job (length job.rows) node row → new ≡ with_latches there.code.now.numbers.items (map (bit_in there.slots.items) there.code.now.latches.items) row → HasLatches job (length job.rows) (node + 1) new
-    last_more row new has new_is = row_more (length job.rows) node there.code.now.numbers.items (map (bit_in there.slots.items) there.code.now.latches.items) row new has is_done.numbers is_done.last new_is
+    pub last_more : (row new : List Bool) → HasLatches job (length job.rows) node row → new ≡ with_latches there.code.now.numbers.items (map (bit_at_slot there.slots.items) there.code.now.latches.items) row → HasLatches job (length job.rows) (node + 1) new
+    last_more row new has new_is = row_more (length job.rows) node there.code.now.numbers.items (map (bit_at_slot there.slots.items) there.code.now.latches.items) row new has is_done.numbers is_done.last new_is

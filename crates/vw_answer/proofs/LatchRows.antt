@@ -1,7 +1,7 @@
 -- Rows of latches, filled by the nodes of the latches one after the other.
-use Rattle.std.proofs.Common.{◌≡◌, ◌<◌, ◌≤◌, ◌+◌, ◌-◌, ◌∷◌, ◌||◌, ◌⊎◌, ℕ, zero, suc, Bool, true, false, List, [], length, map, take, get_or, set, eqb, slice_get, if◌then◌else◌, ap, refl, sym, ◌∙◌, ⊎_elim, inl, inr, eqb-true, eq-eqb, true≢false, None, arith, lt-ltb}
+use Rattle.std.proofs.Common.{◌≡◌, ◌<◌, ◌≤◌, ◌+◌, ◌-◌, ◌∷◌, ◌||◌, ◌⊎◌, ℕ, zero, suc, Bool, true, false, List, [], length, map, take, drop, get_or, set, eqb, slice_get, if◌then◌else◌, ap, ap₂, refl, sym, ◌∙◌, ⊎_elim, inl, inr, eqb-true, eq-eqb, true≢false, None, arith, lt-ltb}
 use Rattle.std.proofs.lemmas.Bool.{cases_Bool, cases_eq, cases_lt, le-ltb}
-use Rattle.std.proofs.lemmas.List.{get_or-set_other, get_or-set_same, length-set, take_all}
+use Rattle.std.proofs.lemmas.List.{drop_more, get_or-set_other, get_or-set_same, length-set, set-set, take_all}
 use Rattle.vw_net.specs.Steps.Bits.{one_if}
 use Rattle.vw_net.specs.declared.cell.Cell.{Cell}
 use Rattle.vw_net.specs.declared.cell.Cell.TheVariants.{Gate, Latch}
@@ -13,6 +13,20 @@ use Rattle.vw_prog.specs.declared.job.Job.{Job}
 use Rattle.vw_node.specs.States.{latch_number}
 use Rattle.vw_node.proofs.Held.{latch_is, latch_within}
 use Rattle.vw_answer.specs.Latches.{with_latches}
+
+-- ---- a row among others
+
+-- one bit more is put into the row of a clock
+pub latches_put : (numbers : List ℕ) (bits : List Bool) (place default : ℕ) (other : Bool) (clock : ℕ) (rows new : List (List Bool)) → place < length numbers → place < length bits → clock < length rows
+    → new ≡ set rows clock (set (get_or rows clock []) (get_or numbers place default) (get_or bits place other))
+    → set new clock (with_latches (drop (place + 1) numbers) (drop (place + 1) bits) (get_or new clock [])) ≡ set rows clock (with_latches (drop place numbers) (drop place bits) (get_or rows clock []))
+latches_put numbers bits place default other clock rows new of_number of_bit within new_is =
+    let row = set (get_or rows clock []) (get_or numbers place default) (get_or bits place other) in
+    let rest = with_latches (drop (place + 1) numbers) (drop (place + 1) bits) in
+    ap (λ (all : List (List Bool)). set all clock (rest (get_or all clock []))) new_is
+    ∙ ap (λ (now : List Bool). set (set rows clock row) clock (rest now)) (get_or-set_same rows clock row [] within)
+    ∙ set-set rows clock row (rest row)
+    ∙ sym (ap₂ (λ (numbers : List ℕ) (bits : List Bool). set rows clock (with_latches numbers bits (get_or rows clock []))) (drop_more numbers place default of_number) (drop_more bits place other of_bit))
 
 -- ---- the numbers of latches
 

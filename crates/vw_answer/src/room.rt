@@ -1,11 +1,11 @@
-ghost use Rattle.std.specs.Prelude.{◌≡◌, ◌≤◌, ◌+◌, suc, length, IfOk};
+ghost use Rattle.std.specs.Prelude.{◌≡◌, ◌≤◌, ◌+◌, suc, IfOk};
 ghost use Rattle.vw_net.specs.History.{outputs_of, state_after, states_of};
 ghost use Rattle.vw_answer.specs.Answers.{HasTold, IsFinished};
 
 use crate::rows::{put_present, put_recorded};
 use std::alloc::{AllocError, Global};
 use vw_net::{Bits, Rows};
-use vw_node::{Node, spare_rows};
+use vw_node::Node;
 use vw_prog::{Answer, Job};
 
 /// Room for the latches of a job: those of each clock, and those after the last. Its chips, which are done, put theirs into it
@@ -13,7 +13,7 @@ use vw_prog::{Answer, Job};
 #[derive(Drop)]
 pub struct Room {
     /// For each clock a bit for each latch, in the order of the cells.
-    pub latches: Vec<Bits>,
+    pub latches: Rows,
     /// A bit for each latch, after the last clock.
     pub last: Bits,
 }
@@ -25,7 +25,7 @@ impl Room {
         ensures { IfOk result (HasTold job.now 1) }
     {
         let share = job.share(0);
-        let latches = spare_rows(alloc, share.clocks, share.start.len())?;
+        let latches = Rows::blank(alloc, share.clocks as usize, share.start.len())?;
         let last = Bits::of(vec![in alloc; false; share.start.len()]?);
         Ok(Room { latches, last })
     }
@@ -55,6 +55,6 @@ impl Room {
     {
         let _ = job;
         let Room { latches, last } = self;
-        Answer::make(Rows::of(host.into_rows()), Rows::of(latches), last)
+        Answer::make(host.into_rows(), latches, last)
     }
 }

@@ -8,7 +8,7 @@ use Rattle.vw_plan.specs.PlannedBoard.{PlannedBoard, planned_board}
 use Rattle.vw_prog.specs.declared.word.Word.{Word}
 use Rattle.vw_prog.specs.Fabric.{Carried}
 use Rattle.vw_prog.specs.Timetable.{passes}
-use Rattle.vw_batches.specs.Traffic.{word_in, words_from, grown_by, after_rows}
+use Rattle.vw_batches.specs.Traffic.{clock_word, words_from, grown_by, after_rows}
 
 -- the words of some rows, and then of others
 pub words_join : (planned : PlannedBoard) (link first : ℕ) (state : List Bool) (rows more : List (List Bool))
@@ -16,7 +16,7 @@ pub words_join : (planned : PlannedBoard) (link first : ℕ) (state : List Bool)
     ≡ words_from planned link first state rows ++ words_from planned link (first + length rows) (state_after planned.ordered.flat state rows) more
 words_join planned link first state [] more = ap (λ (n : ℕ). words_from planned link n state more) (sym (add-zero first))
 words_join planned link first state (row ∷ rows) more =
-    let words = map (word_in planned.ordered.flat first state row) (passes planned link) in
+    let words = map (clock_word planned.ordered.flat first state row) (passes planned link) in
     let next = next_state planned.ordered.flat row state in
     let last = state_after planned.ordered.flat next rows in
     let so_far = words_from planned link (suc first) next rows in

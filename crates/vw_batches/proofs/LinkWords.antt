@@ -11,7 +11,7 @@ use Rattle.vw_prog.specs.declared.word.Word.{Word}
 use Rattle.vw_prog.specs.Fabric.{Carried}
 use Rattle.vw_prog.specs.Scripts.{planned_of, script, script_before, value_at, word_at}
 use Rattle.vw_prog.specs.Timetable.{passes}
-use Rattle.vw_batches.specs.Traffic.{word_in, words_from, scripts_of, grown_by, after_rows}
+use Rattle.vw_batches.specs.Traffic.{clock_word, words_from, scripts_of, grown_by, after_rows}
 use Rattle.vw_batches.proofs.JoinedTraffic.{words_join}
 
 -- more than one worker uses all links
@@ -40,7 +40,7 @@ module _ (job : Job) (link : ℕ) where
   abbrev row_at : ℕ → List Bool
   row_at clock = get_or job.rows clock []
 
-  word_same : (clock : ℕ) (entry : Entry) → word_at job clock entry ≡ word_in job.checked.ordered.flat (job.first + clock) (state_after job.checked.ordered.flat job.start (take clock job.rows)) (row_at clock) entry
+  word_same : (clock : ℕ) (entry : Entry) → word_at job clock entry ≡ clock_word job.checked.ordered.flat (job.first + clock) (state_after job.checked.ordered.flat job.start (take clock job.rows)) (row_at clock) entry
   unfolding value_at
   word_same clock entry = refl
 
@@ -56,8 +56,8 @@ module _ (job : Job) (link : ℕ) where
       let so_far = words_from planned link job.first job.start front in
       let one : map (word_at job clock) (passes planned link) ≡ words_from planned link (job.first + length front) (state_after flat job.start front) (row_at clock ∷ []) =
       ap (λ (word : Entry → Word). map word (passes planned link)) (fun_ext (word_same clock))
-      ∙ ap (λ (n : ℕ). map (word_in flat (job.first + n) (state_after flat job.start front) (row_at clock)) (passes planned link)) (sym count)
-      ∙ sym (append-nil (map (word_in flat (job.first + length front) (state_after flat job.start front) (row_at clock)) (passes planned link))) in
+      ∙ ap (λ (n : ℕ). map (clock_word flat (job.first + n) (state_after flat job.start front) (row_at clock)) (passes planned link)) (sym count)
+      ∙ sym (append-nil (map (clock_word flat (job.first + length front) (state_after flat job.start front) (row_at clock)) (passes planned link))) in
       ap₂ (λ (xs ys : List Word). xs ++ ys) (words_before clock (omega (arith, fits))) one
       ∙ sym (words_join planned link job.first job.start front (row_at clock ∷ []))
       ∙ ap (words_from planned link job.first job.start) (sym (take_more job.rows clock [] within))

@@ -11,15 +11,15 @@ use Rattle.vw_prog.specs.Fabric.{Carried}
 use Rattle.vw_prog.specs.Timetable.{passes}
 
 -- the word of an entry in the clock of a row, from a state; the clock has this number
-abbrev pub word_in : Flat → ℕ → List Bool → List Bool → Entry → Word
-word_in flat clock state row entry =
+abbrev pub clock_word : Flat → ℕ → List Bool → List Bool → Entry → Word
+clock_word flat clock state row entry =
     record { clock = clock; net = entry.net; pin = entry.place; bit = net_value flat row state entry.net }
 
 -- the words that a link carries in the clocks of some rows, from a state on; the first clock has this number
 abbrev pub words_from : PlannedBoard → ℕ → ℕ → List Bool → List (List Bool) → List Word
 words_from planned link first state [] = []
 words_from planned link first state (row ∷ rows) =
-    map (word_in planned.ordered.flat first state row) (passes planned link)
+    map (clock_word planned.ordered.flat first state row) (passes planned link)
     ++ words_from planned link (suc first) (next_state planned.ordered.flat row state) rows
 
 -- the words of each link over a whole run, where free latches start at `unknown`

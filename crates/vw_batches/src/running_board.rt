@@ -43,7 +43,7 @@ impl RunningBoard {
     {
         let programs = Programs::build(alloc, &checked)?;
         let start = checked.ordered().flat().start(alloc, false)?;
-        let rows = Rows::of(Vec::new(alloc));
+        let rows = Rows::new(alloc);
         Ok(RunningBoard {
             programs,
             job: Job::make(checked, 0, start, rows),

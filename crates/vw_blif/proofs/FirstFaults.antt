@@ -6,7 +6,7 @@ use Rattle.vw_blif.specs.declared.fault.TextFault.{TextFault}
 use Rattle.vw_blif.specs.Faults.{fault_at}
 use Rattle.std.specs.Option.{option_or}
 use Rattle.vw_blif.specs.Read.{first_fault}
-use Rattle.vw_blif.specs.FirstFault.{IsFirst}
+use Rattle.vw_blif.specs.FirstFault.{IsFirstFault}
 
 -- the same behind other lines
 record IsFirstBehind (before lines : List Line) (fault : TextFault) : Type 0 where
@@ -55,7 +55,7 @@ counts before (first ∷ front) line rest fault fine at =
     ap (λ (o : Option TextFault). option_or o (first_fault (first ∷ before) (front ++ line ∷ rest))) none.0
     ∙ counts (first ∷ before) front line rest fault none.1 (ap (λ (ls : List Line). fault_at ls line) (sym (behind first front before)) ∙ at)
 
-pub is_first : (lines : List Line) (fault : TextFault) → first_fault [] lines ≡ Some fault → IsFirst lines fault
+pub is_first : (lines : List Line) (fault : TextFault) → first_fault [] lines ≡ Some fault → IsFirstFault lines fault
 is_first lines fault is =
     let f = found [] lines fault is in
     record {
@@ -67,7 +67,7 @@ is_first lines fault is =
       at = ap (λ (ls : List Line). fault_at ls f.line) (sym (append-nil (reverse f.front))) ∙ f.at;
     }
 
-pub first_counts : (lines : List Line) (fault : TextFault) → IsFirst lines fault → first_fault [] lines ≡ Some fault
+pub first_counts : (lines : List Line) (fault : TextFault) → IsFirstFault lines fault → first_fault [] lines ≡ Some fault
 first_counts lines fault is =
     ap (first_fault []) is.whole
     ∙ counts [] is.front is.line is.rest fault is.fine (ap (λ (ls : List Line). fault_at ls is.line) (append-nil (reverse is.front)) ∙ is.at)

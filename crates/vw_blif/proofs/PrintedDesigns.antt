@@ -3,7 +3,7 @@ use Rattle.std.proofs.Common.{◌≡◌, List, [], ◌∷◌, map, Option, refl,
 use Rattle.std.specs.Prelude.{Ok}
 use Rattle.std.specs.List.{AllByRecursion}
 use Rattle.vw_text.specs.WordLines.{word_lines}
-use Rattle.vw_text.specs.PlainLines.{IsPlainLine, plain_text, lines_from}
+use Rattle.vw_text.specs.PlainLines.{IsPlainLine, plain_text, numbered_lines}
 use Rattle.vw_blif.specs.declared.fault.TextFault.{TextFault}
 use Rattle.vw_design.specs.Paths.{Word}
 use Rattle.vw_blif.specs.Spelled.{SpelledModel}
@@ -18,14 +18,14 @@ use Rattle.vw_blif.proofs.PrintedFaults.{repeats_none, design_fine}
 
 -- the lines of a design with a model
 of_models : (printing : Printing) (design : List SpelledModel) → IsPlainFor printing design
-    → design_of_lines (lines_from 1 (design_lines printing design)) ≡ unless (first_fault [] (lines_from 1 (design_lines printing design))) (spelled_models (lines_from 1 (design_lines printing design)))
+    → design_of_lines (numbered_lines 1 (design_lines printing design)) ≡ unless (first_fault [] (numbered_lines 1 (design_lines printing design))) (spelled_models (numbered_lines 1 (design_lines printing design)))
 of_models printing [] plain = absurd (true≢false (sym plain.some))
 of_models printing (model ∷ design) plain = refl
 
-pub read_back : ((lines : List (List Word)) → AllByRecursion IsPlainLine lines → word_lines (plain_text lines) ≡ lines_from 1 lines)
+pub read_back : ((lines : List (List Word)) → AllByRecursion IsPlainLine lines → word_lines (plain_text lines) ≡ numbered_lines 1 lines)
     → (printing : Printing) (design : List SpelledModel) → IsPlainFor printing design → design_of (printed_by printing design) ≡ Ok design
 read_back lines_read printing design plain =
-    let lines = lines_from 1 (design_lines printing design) in
+    let lines = numbered_lines 1 (design_lines printing design) in
     of_lines (printed_by printing design) plain.short
     ∙ ap design_of_lines (lines_read (design_lines printing design) (lines_plain printing design plain.models))
     ∙ of_models printing design plain

@@ -13,7 +13,7 @@ use Rattle.vw_design.specs.declared.item.Edge.TheVariants.{Rise, Fall, Unsaid}
 use Rattle.vw_design.specs.Distinct.{has_name, are_distinct}
 use Rattle.vw_text.specs.declared.line.Line.{Line}
 use Rattle.vw_text.specs.WordLines.{is_empty}
-use Rattle.vw_text.specs.PlainLines.{is_special, is_plain, lines_from}
+use Rattle.vw_text.specs.PlainLines.{is_special, is_plain, numbered_lines}
 use Rattle.vw_blif.specs.declared.fault.TextFault.{TextFault}
 use Rattle.vw_blif.specs.declared.kind.Kind.{Kind}
 use Rattle.vw_blif.specs.Words.{last_word}
@@ -149,7 +149,7 @@ place_fine model binds plain once =
 kept : (names : List Word) (before : List Line) (line : Line) → Inside names before → is_open (line ∷ before) ≡ is_open before → names_of_models (line ∷ before) ≡ names_of_models before → Inside names (line ∷ before)
 kept names before line inside stays same = record { open_ = stays ∙ inside.open_; names_ = same ∙ inside.names_ }
 
-item_fine : (printing : Printing) (names : List Word) (n : ℕ) (item : SpelledItem) (rest : List Line) → is_plain_item item ≡ true → IsFineInside names rest → IsFineInside names (lines_from n (item_lines printing item) ++ rest)
+item_fine : (printing : Printing) (names : List Word) (n : ℕ) (item : SpelledItem) (rest : List Line) → is_plain_item item ≡ true → IsFineInside names rest → IsFineInside names (numbered_lines n (item_lines printing item) ++ rest)
 item_fine printing names n (table line ins out on rows) rest plain further before inside =
     let first : Line = record { number = n; words = codes ".names" ∷ (ins ++ out ∷ []) } in
     let a = and_parts (list_all is_plain ins) _ plain in
@@ -179,12 +179,12 @@ item_fine printing names n (place line model binds) rest plain further before in
     fine_then before first rest (rw (inside.open_, not_none model (map bind_word binds), place_fine model binds parts.0 parts.1) refl) (further (first ∷ before) (kept names before first inside refl refl))
 
 items_fine : (printing : Printing) (names : List Word) (n : ℕ) (items : List SpelledItem) (rest : List Line) → list_all is_plain_item items ≡ true → IsFineInside names rest
-    → IsFineInside names (lines_from n (flat_map (item_lines printing) items) ++ rest)
+    → IsFineInside names (numbered_lines n (flat_map (item_lines printing) items) ++ rest)
 items_fine printing names n [] rest plain further = further
 items_fine printing names n (item ∷ items) rest plain further =
     let parts = and_parts (is_plain_item item) (list_all is_plain_item items) plain in
-    let first = lines_from n (item_lines printing item) in
-    let others = lines_from (n + length (item_lines printing item)) (flat_map (item_lines printing) items) in
+    let first = numbered_lines n (item_lines printing item) in
+    let others = numbered_lines (n + length (item_lines printing item)) (flat_map (item_lines printing) items) in
     subst (IsFineInside names) (sym (ap (λ (ls : List Line). ls ++ rest) (item_first printing n item items) ∙ append_assoc first others rest))
     (item_fine printing names n item (others ++ rest) parts.0 (items_fine printing names (n + length (item_lines printing item)) items rest parts.1 further))
 
@@ -195,7 +195,7 @@ ports_once ports plain = repeats_none [] ports (and_parts (list_all is_plain por
 
 clocks_fine : (names : List Word) (n : ℕ) (ports : List Word) (rest : List Line) → are_plain_ports ports ≡ true → IsFineInside names rest
     → (before : List Line) → Inside names before → ports_before clocked before ≡ []
-    → first_fault before (lines_from n (port_lines (codes ".clock") ports) ++ rest) ≡ None
+    → first_fault before (numbered_lines n (port_lines (codes ".clock") ports) ++ rest) ≡ None
 clocks_fine names n [] rest plain further before inside none = further before inside
 clocks_fine names n (port ∷ ports) rest plain further before inside none =
     let line : Line = record { number = n; words = codes ".clock" ∷ port ∷ ports } in
@@ -205,7 +205,7 @@ clocks_fine names n (port ∷ ports) rest plain further before inside none =
 no_outputs_fine : (bare : Bool) (names : List Word) (n : ℕ) (rest : List Line)
     → ((before : List Line) → Inside names before → ports_before clocked before ≡ [] → first_fault before rest ≡ None)
     → (before : List Line) → Inside names before → ports_before output before ≡ [] → ports_before clocked before ≡ []
-    → first_fault before (lines_from n (bare_lines bare (codes ".outputs")) ++ rest) ≡ None
+    → first_fault before (numbered_lines n (bare_lines bare (codes ".outputs")) ++ rest) ≡ None
 no_outputs_fine false names n rest further before inside none clocks = further before inside clocks
 no_outputs_fine true names n rest further before inside none clocks =
     let line : Line = record { number = n; words = codes ".outputs" ∷ [] } in
@@ -214,7 +214,7 @@ no_outputs_fine true names n rest further before inside none clocks =
 no_inputs_fine : (bare : Bool) (names : List Word) (n : ℕ) (rest : List Line)
     → ((before : List Line) → Inside names before → ports_before output before ≡ [] → ports_before clocked before ≡ [] → first_fault before rest ≡ None)
     → (before : List Line) → Inside names before → ports_before input before ≡ [] → ports_before output before ≡ [] → ports_before clocked before ≡ []
-    → first_fault before (lines_from n (bare_lines bare (codes ".inputs")) ++ rest) ≡ None
+    → first_fault before (numbered_lines n (bare_lines bare (codes ".inputs")) ++ rest) ≡ None
 no_inputs_fine false names n rest further before inside none outputs clocks = further before inside outputs clocks
 no_inputs_fine true names n rest further before inside none outputs clocks =
     let line : Line = record { number = n; words = codes ".inputs" ∷ [] } in
@@ -223,7 +223,7 @@ no_inputs_fine true names n rest further before inside none outputs clocks =
 outputs_fine : (printing : Printing) (names : List Word) (n : ℕ) (ports : List Word) (rest : List Line) → are_plain_ports ports ≡ true
     → ((before : List Line) → Inside names before → ports_before clocked before ≡ [] → first_fault before rest ≡ None)
     → (before : List Line) → Inside names before → ports_before output before ≡ [] → ports_before clocked before ≡ []
-    → first_fault before (lines_from n (open_port_lines printing (codes ".outputs") ports) ++ rest) ≡ None
+    → first_fault before (numbered_lines n (open_port_lines printing (codes ".outputs") ports) ++ rest) ≡ None
 outputs_fine printing names n [] rest plain further before inside none clocks = no_outputs_fine printing.bare names n rest further before inside none clocks
 outputs_fine printing names n (port ∷ ports) rest plain further before inside none clocks =
     let line : Line = record { number = n; words = codes ".outputs" ∷ port ∷ ports } in
@@ -232,7 +232,7 @@ outputs_fine printing names n (port ∷ ports) rest plain further before inside 
 inputs_fine : (printing : Printing) (names : List Word) (n : ℕ) (ports : List Word) (rest : List Line) → are_plain_ports ports ≡ true
     → ((before : List Line) → Inside names before → ports_before output before ≡ [] → ports_before clocked before ≡ [] → first_fault before rest ≡ None)
     → (before : List Line) → Inside names before → ports_before input before ≡ [] → ports_before output before ≡ [] → ports_before clocked before ≡ []
-    → first_fault before (lines_from n (open_port_lines printing (codes ".inputs") ports) ++ rest) ≡ None
+    → first_fault before (numbered_lines n (open_port_lines printing (codes ".inputs") ports) ++ rest) ≡ None
 inputs_fine printing names n [] rest plain further before inside none outputs clocks = no_inputs_fine printing.bare names n rest further before inside none outputs clocks
 inputs_fine printing names n (port ∷ ports) rest plain further before inside none outputs clocks =
     let line : Line = record { number = n; words = codes ".inputs" ∷ port ∷ ports } in
@@ -241,13 +241,13 @@ inputs_fine printing names n (port ∷ ports) rest plain further before inside n
 -- ---- models
 
 -- lines that were numbered together, before others
-apart_lines : (n : ℕ) (lines others : List (List Word)) (rest : List Line) → lines_from n (lines ++ others) ++ rest ≡ lines_from n lines ++ (lines_from (n + length lines) others ++ rest)
+apart_lines : (n : ℕ) (lines others : List (List Word)) (rest : List Line) → numbered_lines n (lines ++ others) ++ rest ≡ numbered_lines n lines ++ (numbered_lines (n + length lines) others ++ rest)
 apart_lines n lines others rest =
-    ap (λ (ls : List Line). ls ++ rest) (numbered-append n lines others) ∙ append_assoc (lines_from n lines) (lines_from (n + length lines) others) rest
+    ap (λ (ls : List Line). ls ++ rest) (numbered-append n lines others) ∙ append_assoc (numbered_lines n lines) (numbered_lines (n + length lines) others) rest
 
 body_fine : (printing : Printing) (names : List Word) (n : ℕ) (model : SpelledModel) (rest : List Line) → is_plain_model model ≡ true → IsFineInside names rest
     → (before : List Line) → Inside names before → ports_before input before ≡ [] → ports_before output before ≡ [] → ports_before clocked before ≡ []
-    → first_fault before (lines_from n (lines_between printing model) ++ rest) ≡ None
+    → first_fault before (numbered_lines n (lines_between printing model) ++ rest) ≡ None
 body_fine printing names n model rest plain further before inside i o c =
     let is = plain_parts model plain in
     let ins = open_port_lines printing (codes ".inputs") model.inputs in
@@ -256,14 +256,14 @@ body_fine printing names n model rest plain further before inside i o c =
     let items = flat_map (item_lines printing) model.items in
     let m = n + length ins in
     let k = m + length outs in
-    let fine : IsFineInside names (lines_from (k + length clks) items ++ rest) = items_fine printing names (k + length clks) model.items rest is.items further in
+    let fine : IsFineInside names (numbered_lines (k + length clks) items ++ rest) = items_fine printing names (k + length clks) model.items rest is.items further in
     let NoFault : List Line → List Line → Type 0 = λ b ls. first_fault b ls ≡ None in
     subst (NoFault before) (sym (apart_lines n ins (outs ++ (clks ++ items)) rest))
-    (inputs_fine printing names n model.inputs (lines_from m (outs ++ (clks ++ items)) ++ rest) is.inputs
+    (inputs_fine printing names n model.inputs (numbered_lines m (outs ++ (clks ++ items)) ++ rest) is.inputs
     (λ b inside_b o_b c_b. subst (NoFault b) (sym (apart_lines m outs (clks ++ items) rest))
-    (outputs_fine printing names m model.outputs (lines_from k (clks ++ items) ++ rest) is.outputs
+    (outputs_fine printing names m model.outputs (numbered_lines k (clks ++ items) ++ rest) is.outputs
     (λ b' inside_b' c_b'. subst (NoFault b') (sym (apart_lines k clks items rest))
-    (clocks_fine names k model.clocks (lines_from (k + length clks) items ++ rest) is.clocks fine b' inside_b' c_b'))
+    (clocks_fine names k model.clocks (numbered_lines (k + length clks) items ++ rest) is.clocks fine b' inside_b' c_b'))
     b inside_b o_b c_b))
     before inside i o c)
 
@@ -275,17 +275,17 @@ end_fine names number rest further before inside =
     fine_then before (end_line number) rest (rw inside.open_ refl) (further (end_line number ∷ before) inside.names_)
 
 pub design_fine : (printing : Printing) (names : List Word) (n : ℕ) (design : List SpelledModel) → list_all is_plain_model design ≡ true → repeats names (map (λ model. model.name) design) ≡ false
-    → (before : List Line) → names_of_models before ≡ names → first_fault before (lines_from n (design_lines printing design)) ≡ None
+    → (before : List Line) → names_of_models before ≡ names → first_fault before (numbered_lines n (design_lines printing design)) ≡ None
 design_fine printing names n [] plain new before are = refl
 design_fine printing names n (model ∷ design) plain new before are =
     let parts = and_parts (is_plain_model model) (list_all is_plain_model design) plain in
     let fresh = or_parts (has_name names model.name) (repeats (names ++ model.name ∷ []) (map (λ (m : SpelledModel). m.name) design)) new in
     let first = model_line n model in
-    let body = lines_from (n + 1) (lines_between printing model) in
+    let body = numbered_lines (n + 1) (lines_between printing model) in
     let last = end_line (n + 1 + length (lines_between printing model)) in
     let next = n + length (model_lines printing model) in
-    let rest = lines_from next (design_lines printing design) in
-    let whole : lines_from n (design_lines printing (model ∷ design)) ≡ first ∷ (body ++ last ∷ rest) =
+    let rest = numbered_lines next (design_lines printing design) in
+    let whole : numbered_lines n (design_lines printing (model ∷ design)) ≡ first ∷ (body ++ last ∷ rest) =
     numbered-append n (model_lines printing model) (design_lines printing design)
     ∙ ap (λ (ls : List Line). ls ++ rest) (model_cut printing n model)
     ∙ ap (λ (ls : List Line). first ∷ ls) (append_assoc body (last ∷ []) rest) in

@@ -13,7 +13,7 @@ use Rattle.vw_design.specs.declared.item.Edge.{Edge}
 use Rattle.vw_design.specs.declared.item.Edge.TheVariants.{Rise, Fall, Unsaid}
 use Rattle.vw_text.specs.declared.line.Line.{Line}
 use Rattle.vw_text.specs.WordLines.{is_empty}
-use Rattle.vw_text.specs.PlainLines.{is_plain, lines_from}
+use Rattle.vw_text.specs.PlainLines.{is_plain, numbered_lines}
 use Rattle.vw_blif.specs.declared.kind.Kind.{Kind}
 use Rattle.vw_blif.specs.declared.kind.Kind.TheVariants.{Row}
 use Rattle.vw_blif.specs.Words.{front_words, last_word}
@@ -27,10 +27,10 @@ use Rattle.vw_blif.specs.Designs.{table_of, item_of}
 use Rattle.vw_blif.specs.Printed.{FreeNumber, dont_care, unknown, Printing, mark_byte, row_words, free_word, init_word, control_word, latch_words, bind_word}
 use Rattle.vw_blif.specs.PlainDesigns.{is_plain_table, is_plain_control, can_stand_beside, is_plain_bind}
 
-pub numbered-append : (n : ℕ) (lines others : List (List Word)) → lines_from n (lines ++ others) ≡ lines_from n lines ++ lines_from (n + length lines) others
-numbered-append n [] others = ap (λ m. lines_from m others) (omega arith)
+pub numbered-append : (n : ℕ) (lines others : List (List Word)) → numbered_lines n (lines ++ others) ≡ numbered_lines n lines ++ numbered_lines (n + length lines) others
+numbered-append n [] others = ap (λ m. numbered_lines m others) (omega arith)
 numbered-append n (words ∷ lines) others =
-    ap (λ (ls : List Line). record { number = n; words = words } ∷ ls) (numbered-append (n + 1) lines others ∙ ap (λ m. lines_from (n + 1) lines ++ lines_from m others) (omega arith))
+    ap (λ (ls : List Line). record { number = n; words = words } ∷ ls) (numbered-append (n + 1) lines others ∙ ap (λ m. numbered_lines (n + 1) lines ++ numbered_lines m others) (omega arith))
 
 -- ---- rows
 
@@ -49,7 +49,7 @@ abbrev pub ends_model : Line → Bool
 ends_model line = is_model (kind line) || is_end (kind line)
 
 abbrev pub rows_at : ℕ → Bool → List (List Mark) → List Line
-rows_at n on rows = lines_from n (map (row_words on) rows)
+rows_at n on rows = numbered_lines n (map (row_words on) rows)
 
 pub rows_begin_none : (n : ℕ) (on : Bool) (rows : List (List Mark)) → list_any begins_group (rows_at n on rows) ≡ false
 rows_begin_none n on [] = refl

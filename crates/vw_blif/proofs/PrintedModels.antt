@@ -6,7 +6,7 @@ use Rattle.std.proofs.lemmas.Bool.{and_parts, or_parts}
 use Rattle.std.proofs.lemmas.List.Folds.{list_any-append}
 use Rattle.vw_design.specs.Distinct.{are_distinct}
 use Rattle.vw_text.specs.declared.line.Line.{Line}
-use Rattle.vw_text.specs.PlainLines.{is_plain, lines_from}
+use Rattle.vw_text.specs.PlainLines.{is_plain, numbered_lines}
 use Rattle.vw_design.specs.Paths.{Word}
 use Rattle.vw_blif.specs.Kinds.{kind, is_model, is_end, input, output, clocked}
 use Rattle.vw_blif.specs.Spelled.{Binding, SpelledItem, table, latch, place, SpelledModel}
@@ -62,7 +62,7 @@ group_first line rows rest inputs outputs clocks items begins stays none stay ad
 
 -- the lines of an item, and then those of the others
 pub item_first : (printing : Printing) (n : ℕ) (item : SpelledItem) (items : List SpelledItem)
-    → lines_from n (flat_map (item_lines printing) (item ∷ items)) ≡ lines_from n (item_lines printing item) ++ lines_from (n + length (item_lines printing item)) (flat_map (item_lines printing) items)
+    → numbered_lines n (flat_map (item_lines printing) (item ∷ items)) ≡ numbered_lines n (item_lines printing item) ++ numbered_lines (n + length (item_lines printing item)) (flat_map (item_lines printing) items)
 item_first printing n item items = numbered-append n (item_lines printing item) (flat_map (item_lines printing) items)
 
 with_item : (lines : List Line) (items : List SpelledItem) (found : Option SpelledItem) (item : SpelledItem) → found ≡ Some item → Adds lines [] [] [] (cons_option found items) → Adds lines [] [] [] (item ∷ items)
@@ -76,7 +76,7 @@ with_item lines items found item is adds = record {
 }
 
 one_item : (printing : Printing) (n : ℕ) (item : SpelledItem) (rest : List Line) (items : List SpelledItem) → is_plain_item item ≡ true → line_of item ≡ n → Adds rest [] [] [] items
-    → Adds (lines_from n (item_lines printing item) ++ rest) [] [] [] (item ∷ items)
+    → Adds (numbered_lines n (item_lines printing item) ++ rest) [] [] [] (item ∷ items)
 one_item printing n (table line ins out on rows) rest items plain at adds =
     let first : Line = record { number = n; words = codes ".names" ∷ (ins ++ out ∷ []) } in
     with_item (first ∷ (rows_at (n + 1) on rows ++ rest)) items (item_of (record { head = first; tail = rows_at (n + 1) on rows })) (table line ins out on rows)
@@ -95,33 +95,33 @@ one_item printing n (place line model binds) rest items plain at adds =
     (ap₂ (λ (m : ℕ) (bs : List Binding). Some (place m model bs)) (sym at) (binds_back binds all))
     (group_first first [] rest [] [] [] items refl refl refl refl adds)
 
-all_items : (printing : Printing) (n : ℕ) (items : List SpelledItem) → list_all is_plain_item items ≡ true → have_line_numbers printing n items ≡ true → Adds (lines_from n (flat_map (item_lines printing) items)) [] [] [] items
+all_items : (printing : Printing) (n : ℕ) (items : List SpelledItem) → list_all is_plain_item items ≡ true → have_line_numbers printing n items ≡ true → Adds (numbered_lines n (flat_map (item_lines printing) items)) [] [] [] items
 all_items printing n [] plain at = no_line
 all_items printing n (item ∷ items) plain at =
     let parts = and_parts (is_plain_item item) (list_all is_plain_item items) plain in
     let numbers = and_parts (eqb (line_of item) n) (have_line_numbers printing (n + length (item_lines printing item)) items) at in
     let rest = all_items printing (n + length (item_lines printing item)) items parts.1 numbers.1 in
     let P : List Line → Type 0 = λ ls. Adds ls [] [] [] (item ∷ items) in
-    subst P (sym (item_first printing n item items)) (one_item printing n item (lines_from (n + length (item_lines printing item)) (flat_map (item_lines printing) items)) items parts.0 (eqb-true (line_of item) n numbers.0) rest)
+    subst P (sym (item_first printing n item items)) (one_item printing n item (numbered_lines (n + length (item_lines printing item)) (flat_map (item_lines printing) items)) items parts.0 (eqb-true (line_of item) n numbers.0) rest)
 
 -- ---- ports
 
 -- what stands for a list without ports adds none
 no_inputs : (bare : Bool) (n : ℕ) (outputs clocks : List Word) (items : List SpelledItem) (rest : List Line) → Adds rest [] outputs clocks items
-    → Adds (lines_from n (bare_lines bare (codes ".inputs")) ++ rest) [] outputs clocks items
+    → Adds (numbered_lines n (bare_lines bare (codes ".inputs")) ++ rest) [] outputs clocks items
 no_inputs false n outputs clocks items rest adds = adds
 no_inputs true n outputs clocks items rest adds =
     group_first (record { number = n; words = codes ".inputs" ∷ [] }) [] rest [] outputs clocks items refl refl refl refl adds
 
 no_outputs : (bare : Bool) (n : ℕ) (clocks : List Word) (items : List SpelledItem) (rest : List Line) → Adds rest [] [] clocks items
-    → Adds (lines_from n (bare_lines bare (codes ".outputs")) ++ rest) [] [] clocks items
+    → Adds (numbered_lines n (bare_lines bare (codes ".outputs")) ++ rest) [] [] clocks items
 no_outputs false n clocks items rest adds = adds
 no_outputs true n clocks items rest adds =
     group_first (record { number = n; words = codes ".outputs" ∷ [] }) [] rest [] [] clocks items refl refl refl refl adds
 
 -- the lines of a list of ports before others
 inputs_first : (printing : Printing) (n : ℕ) (ports outputs clocks : List Word) (items : List SpelledItem) (rest : List Line) → Adds rest [] outputs clocks items
-    → Adds (lines_from n (open_port_lines printing (codes ".inputs") ports) ++ rest) ports outputs clocks items
+    → Adds (numbered_lines n (open_port_lines printing (codes ".inputs") ports) ++ rest) ports outputs clocks items
 inputs_first printing n [] outputs clocks items rest adds = no_inputs printing.bare n outputs clocks items rest adds
 inputs_first printing n (port ∷ ports) outputs clocks items rest adds =
     let line : Line = record { number = n; words = codes ".inputs" ∷ port ∷ ports } in
@@ -129,7 +129,7 @@ inputs_first printing n (port ∷ ports) outputs clocks items rest adds =
     subst P (append-nil (port ∷ ports)) (group_first line [] rest [] outputs clocks items refl refl refl refl adds)
 
 outputs_first : (printing : Printing) (n : ℕ) (ports clocks : List Word) (items : List SpelledItem) (rest : List Line) → Adds rest [] [] clocks items
-    → Adds (lines_from n (open_port_lines printing (codes ".outputs") ports) ++ rest) [] ports clocks items
+    → Adds (numbered_lines n (open_port_lines printing (codes ".outputs") ports) ++ rest) [] ports clocks items
 outputs_first printing n [] clocks items rest adds = no_outputs printing.bare n clocks items rest adds
 outputs_first printing n (port ∷ ports) clocks items rest adds =
     let line : Line = record { number = n; words = codes ".outputs" ∷ port ∷ ports } in
@@ -137,7 +137,7 @@ outputs_first printing n (port ∷ ports) clocks items rest adds =
     subst P (append-nil (port ∷ ports)) (group_first line [] rest [] [] clocks items refl refl refl refl adds)
 
 clocks_first : (n : ℕ) (ports : List Word) (items : List SpelledItem) (rest : List Line) → Adds rest [] [] [] items
-    → Adds (lines_from n (port_lines (codes ".clock") ports) ++ rest) [] [] ports items
+    → Adds (numbered_lines n (port_lines (codes ".clock") ports) ++ rest) [] [] ports items
 clocks_first n [] items rest adds = adds
 clocks_first n (port ∷ ports) items rest adds =
     let line : Line = record { number = n; words = codes ".clock" ∷ port ∷ ports } in
@@ -153,7 +153,7 @@ lines_between printing model =
     ++ (port_lines (codes ".clock") model.clocks ++ flat_map (item_lines printing) model.items))
 
 body_adds : (printing : Printing) (n : ℕ) (model : SpelledModel) → is_plain_model model ≡ true → have_line_numbers printing (n + length (head_lines printing model)) model.items ≡ true
-    → Adds (lines_from (n + 1) (lines_between printing model)) model.inputs model.outputs model.clocks model.items
+    → Adds (numbered_lines (n + 1) (lines_between printing model)) model.inputs model.outputs model.clocks model.items
 body_adds printing n model plain at =
     let a = open_port_lines printing (codes ".inputs") model.inputs in
     let b = open_port_lines printing (codes ".outputs") model.outputs in
@@ -168,9 +168,9 @@ body_adds printing n model plain at =
     let B : List Line → Type 0 = λ ls. Adds ls [] model.outputs model.clocks model.items in
     let C : List Line → Type 0 = λ ls. Adds ls model.inputs model.outputs model.clocks model.items in
     let items = all_items printing m model.items (plain_parts model plain).items numbers in
-    let clocks = subst A (sym (numbered-append (n + 1 + length a + length b) c i)) (clocks_first (n + 1 + length a + length b) model.clocks model.items (lines_from m i) items) in
-    let outputs = subst B (sym (numbered-append (n + 1 + length a) b (c ++ i))) (outputs_first printing (n + 1 + length a) model.outputs model.clocks model.items (lines_from (n + 1 + length a + length b) (c ++ i)) clocks) in
-    subst C (sym (numbered-append (n + 1) a (b ++ (c ++ i)))) (inputs_first printing (n + 1) model.inputs model.outputs model.clocks model.items (lines_from (n + 1 + length a) (b ++ (c ++ i))) outputs)
+    let clocks = subst A (sym (numbered-append (n + 1 + length a + length b) c i)) (clocks_first (n + 1 + length a + length b) model.clocks model.items (numbered_lines m i) items) in
+    let outputs = subst B (sym (numbered-append (n + 1 + length a) b (c ++ i))) (outputs_first printing (n + 1 + length a) model.outputs model.clocks model.items (numbered_lines (n + 1 + length a + length b) (c ++ i)) clocks) in
+    subst C (sym (numbered-append (n + 1) a (b ++ (c ++ i)))) (inputs_first printing (n + 1) model.inputs model.outputs model.clocks model.items (numbered_lines (n + 1 + length a) (b ++ (c ++ i))) outputs)
 
 abbrev pub model_line : ℕ → SpelledModel → Line
 model_line n model = record { number = n; words = codes ".model" ∷ model.name ∷ [] }
@@ -183,9 +183,9 @@ end_last a b c d e = simp append_assoc
 
 -- the first line of a model, its body, and its `.end`
 pub model_cut : (printing : Printing) (n : ℕ) (model : SpelledModel)
-    → lines_from n (model_lines printing model) ≡ model_line n model ∷ (lines_from (n + 1) (lines_between printing model) ++ end_line (n + 1 + length (lines_between printing model)) ∷ [])
+    → numbered_lines n (model_lines printing model) ≡ model_line n model ∷ (numbered_lines (n + 1) (lines_between printing model) ++ end_line (n + 1 + length (lines_between printing model)) ∷ [])
 model_cut printing n model =
-    ap (λ (ls : List (List Word)). model_line n model ∷ lines_from (n + 1) ls)
+    ap (λ (ls : List (List Word)). model_line n model ∷ numbered_lines (n + 1) ls)
     (end_last (open_port_lines printing (codes ".inputs") model.inputs) (open_port_lines printing (codes ".outputs") model.outputs) (port_lines (codes ".clock") model.clocks) (flat_map (item_lines printing) model.items) ((codes ".end" ∷ []) ∷ []))
     ∙ ap (λ (ls : List Line). model_line n model ∷ ls) (numbered-append (n + 1) (lines_between printing model) ((codes ".end" ∷ []) ∷ []))
 
@@ -225,10 +225,10 @@ record AreModels (lines : List Line) (design : List SpelledModel) : Type 0 where
   models : map model_of (blocks lines).parts ≡ design
 
 model_first : (printing : Printing) (n : ℕ) (model : SpelledModel) (rest : List Line) (design : List SpelledModel) → is_plain_model model ≡ true → have_line_numbers printing (n + length (head_lines printing model)) model.items ≡ true
-    → AreModels rest design → AreModels (lines_from n (model_lines printing model) ++ rest) (model ∷ design)
+    → AreModels rest design → AreModels (numbered_lines n (model_lines printing model) ++ rest) (model ∷ design)
 model_first printing n model rest design plain at are =
     let first = model_line n model in
-    let body = lines_from (n + 1) (lines_between printing model) in
+    let body = numbered_lines (n + 1) (lines_between printing model) in
     let last = end_line (n + 1 + length (lines_between printing model)) in
     let adds = body_adds printing n model plain at in
     let none : list_any (λ line. is_model (kind line)) (body ++ last ∷ []) ≡ false =
@@ -239,7 +239,7 @@ model_first printing n model rest design plain at are =
       models = ap (λ (c : CutList Line). map model_of c.parts) cut ∙ ap₂ (λ (m : SpelledModel) (ms : List SpelledModel). m ∷ ms) (model_back n model body last refl adds) are.models;
     }
 
-all_models : (printing : Printing) (n : ℕ) (design : List SpelledModel) → list_all is_plain_model design ≡ true → have_numbers printing n design ≡ true → AreModels (lines_from n (design_lines printing design)) design
+all_models : (printing : Printing) (n : ℕ) (design : List SpelledModel) → list_all is_plain_model design ≡ true → have_numbers printing n design ≡ true → AreModels (numbered_lines n (design_lines printing design)) design
 all_models printing n [] plain at = record { before = refl; models = refl }
 all_models printing n (model ∷ design) plain at =
     let parts = and_parts (is_plain_model model) (list_all is_plain_model design) plain in
@@ -247,8 +247,8 @@ all_models printing n (model ∷ design) plain at =
     let rest = all_models printing (n + length (model_lines printing model)) design parts.1 numbers.1 in
     let P : List Line → Type 0 = λ ls. AreModels ls (model ∷ design) in
     subst P (sym (numbered-append n (model_lines printing model) (design_lines printing design)))
-    (model_first printing n model (lines_from (n + length (model_lines printing model)) (design_lines printing design)) design parts.0 numbers.0 rest)
+    (model_first printing n model (numbered_lines (n + length (model_lines printing model)) (design_lines printing design)) design parts.0 numbers.0 rest)
 
 -- a design is what its printed lines spell
-pub spelled_back : (printing : Printing) (n : ℕ) (design : List SpelledModel) → list_all is_plain_model design ≡ true → have_numbers printing n design ≡ true → spelled_models (lines_from n (design_lines printing design)) ≡ design
+pub spelled_back : (printing : Printing) (n : ℕ) (design : List SpelledModel) → list_all is_plain_model design ≡ true → have_numbers printing n design ≡ true → spelled_models (numbered_lines n (design_lines printing design)) ≡ design
 spelled_back printing n design plain at = (all_models printing n design plain at).models

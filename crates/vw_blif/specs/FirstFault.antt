@@ -5,7 +5,7 @@ use Rattle.vw_blif.specs.declared.fault.TextFault.{TextFault}
 use Rattle.vw_blif.specs.Faults.{fault_at}
 use Rattle.vw_blif.specs.Read.{first_fault}
 
-pub record IsFirst (lines : List Line) (fault : TextFault) : Type 0 where
+pub record IsFirstFault (lines : List Line) (fault : TextFault) : Type 0 where
   pub front : List Line
   pub line : Line
   pub rest : List Line

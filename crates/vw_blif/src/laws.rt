@@ -6,7 +6,7 @@ ghost use Rattle.vw_blif.specs.declared.fault.TextFault.{TextFault};
 ghost use Rattle.vw_blif.specs.CutLists.{CutList, cut_before};
 ghost use Rattle.vw_blif.specs.Cuts.{IsCut};
 ghost use Rattle.vw_blif.specs.Read.{first_fault, design_of};
-ghost use Rattle.vw_blif.specs.FirstFault.{IsFirst};
+ghost use Rattle.vw_blif.specs.FirstFault.{IsFirstFault};
 ghost use Rattle.vw_blif.specs.Spelled.{SpelledModel, spelled_model};
 ghost use Rattle.vw_blif.specs.Printed.{Printing, printed_by, printed_design};
 ghost use Rattle.vw_blif.specs.PlainDesigns.{IsPlainDesign, IsPlainFor};
@@ -25,9 +25,9 @@ pub fn lines_are_cut()
 /// The fault of lines is the one that stands on a line with none on the lines before it.
 pub fn the_first_fault_counts()
     ensures first { (lines : List Line) (fault : TextFault)
-        → first_fault [] lines ≡ Some fault → IsFirst lines fault }
+        → first_fault [] lines ≡ Some fault → IsFirstFault lines fault }
     ensures counts { (lines : List Line) (fault : TextFault)
-        → IsFirst lines fault → first_fault [] lines ≡ Some fault }
+        → IsFirstFault lines fault → first_fault [] lines ≡ Some fault }
 {}
 
 /// A design that is printed in the plain way is read back. So it is where a list without ports has its line, too, and

@@ -14,7 +14,7 @@ use Rattle.vw_plan.specs.declared.link.Link.{Link}
 use Rattle.vw_plan.specs.Walks.{has_link}
 use Rattle.vw_board.specs.declared.fault.BoardFault.{BoardFault}
 use Rattle.vw_board.specs.declared.fault.BoardFault.TheVariants.{DuplicateLink}
-use Rattle.vw_board.specs.Words.{word_at, within, number_within, is_line_of}
+use Rattle.vw_board.specs.Words.{line_word, within, number_within, is_line_of}
 use Rattle.vw_board.specs.LinkLines.{delay_in, first_link_fault, link_fault, link_of, link_words}
 use Rattle.vw_plan.specs.Links.{AreSeparate, HaveSameEnds}
 use Rattle.vw_board.specs.Steps.Links.{ReadsLink, ReadsSoFar}
@@ -40,16 +40,16 @@ delay_within : (version : ℕ) (line : Line) (value : ℕ) → delay_in version 
 delay_within version line value found = by (eqb version 1) refl found where
   by : (unwritten : Bool) → eqb version 1 ≡ unwritten → (if unwritten then Some 1 else number_within 1 16 4 line) ≡ Some value → IsFoundInRange 1 16 value (if unwritten then Some 1 else number_within 1 16 4 line)
   by true is found_ = let same : 1 ≡ value = ap (λ (o : Option ℕ). unwrap_or o 0) found_ in record { is = same; above = omega (arith, same); below = omega (arith, same) }
-  by false is found_ = again (was_within 1 16 value (spelled_number (word_at 4 line)) found_) found_ where
-    again : IsFoundInRange 1 16 value (spelled_number (word_at 4 line)) → number_within 1 16 4 line ≡ Some value → IsFoundInRange 1 16 value (number_within 1 16 4 line)
+  by false is found_ = again (was_within 1 16 value (spelled_number (line_word 4 line)) found_) found_ where
+    again : IsFoundInRange 1 16 value (spelled_number (line_word 4 line)) → number_within 1 16 4 line ≡ Some value → IsFoundInRange 1 16 value (number_within 1 16 4 line)
     again its there = rw there (record { is = refl; above = its.above; below = its.below })
 
 -- a line with its form and with its numbers in their ranges is the line of a link that isn't at fault
 pub link_fine : (version chips : ℕ) (links : List Link) (line : Line) (link : Link) → is_line_of (codes "link") (link_words version) line ≡ true → number_within 0 chips 1 line ≡ Some link.from → number_within 0 chips 2 line ≡ Some link.to → number_within 1 64 3 line ≡ Some link.width → delay_in version line ≡ Some link.delay → link.from ≢ link.to → has_link links link.from link.to ≡ false → ReadsLink version chips links line link
 link_fine version chips links line link form is_from is_to is_width is_delay apart new =
-    let at_from : IsFoundInRange 0 chips link.from (spelled_number (word_at 1 line)) = was_within 0 chips link.from (spelled_number (word_at 1 line)) is_from in
-    let at_to : IsFoundInRange 0 chips link.to (spelled_number (word_at 2 line)) = was_within 0 chips link.to (spelled_number (word_at 2 line)) is_to in
-    let at_width : IsFoundInRange 1 64 link.width (spelled_number (word_at 3 line)) = was_within 1 64 link.width (spelled_number (word_at 3 line)) is_width in
+    let at_from : IsFoundInRange 0 chips link.from (spelled_number (line_word 1 line)) = was_within 0 chips link.from (spelled_number (line_word 1 line)) is_from in
+    let at_to : IsFoundInRange 0 chips link.to (spelled_number (line_word 2 line)) = was_within 0 chips link.to (spelled_number (line_word 2 line)) is_to in
+    let at_width : IsFoundInRange 1 64 link.width (spelled_number (line_word 3 line)) = was_within 1 64 link.width (spelled_number (line_word 3 line)) is_width in
     let at_delay : IsFoundInRange 1 16 link.delay (delay_in version line) = delay_within version line link.delay is_delay in
     let differ : eqb link.from link.to ≡ false = ne_eqb link.from link.to apart in
     record {
@@ -68,8 +68,8 @@ link_fine version chips links line link form is_from is_to is_width is_delay apa
 -- such a line whose link has the ends of an earlier one
 pub repeated_ends : (version chips : ℕ) (links : List Link) (line : Line) (link : Link) → is_line_of (codes "link") (link_words version) line ≡ true → number_within 0 chips 1 line ≡ Some link.from → number_within 0 chips 2 line ≡ Some link.to → number_within 1 64 3 line ≡ Some link.width → delay_in version line ≡ Some link.delay → link.from ≢ link.to → has_link links link.from link.to ≡ true → link_fault version chips links line ≡ Some (DuplicateLink link.from link.to)
 repeated_ends version chips links line link form is_from is_to is_width is_delay apart repeated =
-    let at_from : IsFoundInRange 0 chips link.from (spelled_number (word_at 1 line)) = was_within 0 chips link.from (spelled_number (word_at 1 line)) is_from in
-    let at_to : IsFoundInRange 0 chips link.to (spelled_number (word_at 2 line)) = was_within 0 chips link.to (spelled_number (word_at 2 line)) is_to in
+    let at_from : IsFoundInRange 0 chips link.from (spelled_number (line_word 1 line)) = was_within 0 chips link.from (spelled_number (line_word 1 line)) is_from in
+    let at_to : IsFoundInRange 0 chips link.to (spelled_number (line_word 2 line)) = was_within 0 chips link.to (spelled_number (line_word 2 line)) is_to in
     let differ : eqb link.from link.to ≡ false = ne_eqb link.from link.to apart in
     rw (form, is_from, is_to, is_width, is_delay, at_from.is, at_to.is, differ, repeated) refl
 

@@ -4,7 +4,7 @@ use Rattle.std.specs.Prelude.{IsSome}
 use Rattle.std.proofs.lemmas.Bool.{both_ways}
 use Rattle.std.proofs.lemmas.List.{get_or_default}
 use Rattle.vw_plan.specs.declared.link.Link.{Link}
-use Rattle.vw_plan.specs.Walks.{IsWalk, IsJoined}
+use Rattle.vw_plan.specs.Walks.{IsWalk, IsReachable}
 use Rattle.vw_plan.specs.Distance.{has_walk}
 use Rattle.vw_plan.proofs.Walking.{Walked, walk-has_walk}
 use Rattle.vw_plan.proofs.Shortest.{IsShort, short_walk}
@@ -29,11 +29,11 @@ module _ (chips : ℕ) (few : chips ≤ 32) (links : List Link) (separate : AreS
     is_noted from to from_node to_node = (least.least to (omega arith)).number from (omega arith)
 
     -- where something is noted there is a walk
-    walk_noted : (from to : ℕ) (found : Option ℕ) → IsFirstPassing (λ count. has_walk links count from to) (chips + 1) found → IsSome found → IsJoined links from to
+    walk_noted : (from to : ℕ) (found : Option ℕ) → IsFirstPassing (λ count. has_walk links count from to) (chips + 1) found → IsSome found → IsReachable links from to
     walk_noted from to None first some = absurd (true≢false (sym some))
     walk_noted from to (Some count) first some = let walked : Walked links count from to = walk-has_walk links count from to first.1 in ∣ (walked.nodes, walked.walk) ∣₁
 
-    pub joined_where_noted : (from to : ℕ) → from ≤ chips → to ≤ chips → IsSome (noted lists from to) → IsJoined links from to
+    pub joined_where_noted : (from to : ℕ) → from ≤ chips → to ≤ chips → IsSome (noted lists from to) → IsReachable links from to
     joined_where_noted from to from_node to_node some = walk_noted from to (first_below (λ count. has_walk links count from to) (chips + 1)) (first_passing (λ count. has_walk links count from to) (chips + 1)) (subst IsSome (is_noted from to from_node to_node) some)
 
     -- where nothing is noted there is none
@@ -46,7 +46,7 @@ module _ (chips : ℕ) (few : chips ≤ 32) (links : List Link) (separate : AreS
     -- where all is noted, these are the links of a board
     pub links_of_board : AreAllThere lists (length lists) → AreLinks chips links
     links_of_board all = record { separate = separate; joined = joined } where
-      joined : (from to : ℕ) → from ≤ chips → to ≤ chips → IsJoined links from to
+      joined : (from to : ℕ) → from ≤ chips → to ≤ chips → IsReachable links from to
       joined from to from_node to_node = let size : length lists ≡ chips + 1 = least.each in joined_where_noted from to from_node to_node (all from (omega arith) to (omega arith))
 
     -- the first pair for which nothing is noted
@@ -61,10 +61,10 @@ module _ (chips : ℕ) (few : chips ≤ 32) (links : List Link) (separate : AreS
       apart : (nodes : List ℕ) → ¬ (IsWalk links from nodes to)
       apart = none_noted from to from_node (first_below (λ count. has_walk links count from to) (chips + 1)) (first_passing (λ count. has_walk links count from to) (chips + 1)) (sym (is_noted from to from_node to_node) ∙ pair.first.missing)
 
-      first : (a b : ℕ) → a ≤ chips → b ≤ chips → ComesBefore a b from to → IsJoined links a b
+      first : (a b : ℕ) → a ≤ chips → b ≤ chips → ComesBefore a b from to → IsReachable links a b
       first a b a_node b_node before = ⊎_elim if_row if_column before where
-        if_row : a < from → IsJoined links a b
+        if_row : a < from → IsReachable links a b
         if_row row = joined_where_noted a b a_node b_node (pair.before a row b (omega (arith, least.each)))
 
-        if_column : (a ≡ from) × (b < to) → IsJoined links a b
+        if_column : (a ≡ from) × (b < to) → IsReachable links a b
         if_column column = joined_where_noted a b a_node b_node (subst (λ (n : ℕ). IsSome (noted lists n b)) (sym column.0) (pair.first.before b column.1))

@@ -10,7 +10,7 @@ use Rattle.vw_text.specs.WordLines.{word_lines}
 use Rattle.vw_plan.specs.declared.link.Link.{Link}
 use Rattle.vw_plan.specs.declared.board.Board.{Board}
 use Rattle.vw_plan.specs.Links.{AreLinks}
-use Rattle.vw_plan.specs.Walks.{IsJoined}
+use Rattle.vw_plan.specs.Walks.{IsReachable}
 use Rattle.vw_board.specs.declared.fault.BoardFault.{BoardFault}
 use Rattle.vw_board.specs.declared.fault.BoardFault.TheVariants.{TooLarge, BadLine, BadNumber, SelfLink, DuplicateLink, PinsExceeded, Unreachable, NoMemory}
 use Rattle.vw_board.specs.BoardText.{line_fault, RefusesLines, IsBoardOfLines, Spells, Refuses, is_text_fault}
@@ -32,7 +32,7 @@ fine_lines lines board is (Unreachable a b) content refused =
     let apart = refused.1.1 in
     let from_node : a ≤ board.chips = omega (arith, apart.from_node, is.chips) in
     let to_node : b ≤ board.chips = omega (arith, apart.to_node, is.chips) in
-    let joined = subst (λ (links : List Link). IsJoined links a b) is.links (board.linked.joined a b from_node to_node) in
+    let joined = subst (λ (links : List Link). IsReachable links a b) is.links (board.linked.joined a b from_node to_node) in
     ∥∥₁_elim joined (hlevel) (λ walk. apart.apart walk.0 walk.1)
 fine_lines lines board is NoMemory content refused = absurd (true≢false (sym content))
 

@@ -5,7 +5,7 @@ use Rattle.vw_text.specs.declared.line.Line.{Line}
 use Rattle.vw_text.specs.WordLines.{word_lines}
 use Rattle.vw_plan.specs.declared.link.Link.{Link}
 use Rattle.vw_plan.specs.declared.board.Board.{Board}
-use Rattle.vw_plan.specs.Walks.{IsWalk, IsJoined}
+use Rattle.vw_plan.specs.Walks.{IsWalk, IsReachable}
 use Rattle.vw_board.specs.declared.fault.BoardFault.{BoardFault}
 use Rattle.vw_board.specs.declared.fault.BoardFault.TheVariants.{TooLarge, BadLine, BadNumber, SelfLink, DuplicateLink, PinsExceeded, Unreachable, NoMemory}
 use Rattle.vw_board.specs.Headers.{headers_fault, version_of, chips_of, cells_of, settle_of, pins_of}
@@ -26,7 +26,7 @@ pub record IsFirstApart (chips : ℕ) (links : List Link) (from to : ℕ) : Type
   pub from_node : from ≤ chips
   pub to_node : to ≤ chips
   pub apart : (nodes : List ℕ) → ¬ (IsWalk links from nodes to)
-  pub first : (a b : ℕ) → a ≤ chips → b ≤ chips → ComesBefore a b from to → IsJoined links a b
+  pub first : (a b : ℕ) → a ≤ chips → b ≤ chips → ComesBefore a b from to → IsReachable links a b
 
 -- why links that aren't at fault make no board: pins are tried first, then walks
 abbrev pub RefusesLinks : ℕ → ℕ → List Link → BoardFault → Type 0

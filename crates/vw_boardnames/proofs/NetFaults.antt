@@ -35,7 +35,7 @@ use Rattle.vw_design.proofs.RankedGates.{is_gate_item, ranked_loop_free, read_by
 use Rattle.vw_design.proofs.Sites.{site_item}
 use Rattle.vw_hardware.specs.Driven.{rank}
 use Rattle.vw_hardware.specs.Items.{node_items}
-use Rattle.vw_hardware.specs.Locals.{Local, LocalItem, column, coming, drives, kept, reads, register, result, table as local_table}
+use Rattle.vw_hardware.specs.Locals.{Local, LocalItem, column, coming, drives, kept, locals_read, register, result, table as local_table}
 use Rattle.vw_hardware.specs.Names.{name_at}
 use Rattle.vw_hardware.specs.Tables.{pass}
 use Rattle.vw_hardware.proofs.Clocks.{cell_chip}
@@ -94,7 +94,7 @@ data_plain (Names line ins out cover) = refl
 data_plain (Latch line d q edge control init) = refl
 data_plain (Sub line model binds) = refl
 
-data_spelled : (local : LocalItem) → plain_data (spelled_item local) ≡ map spelled (reads local)
+data_spelled : (local : LocalItem) → plain_data (spelled_item local) ≡ map spelled (locals_read local)
 data_spelled (local_table ins out on rows) = refl
 data_spelled (register next own init) = refl
 
@@ -152,7 +152,7 @@ module _ (planned : PlannedBoard) (sound : IsSound planned) (board : Design) (is
     by None is there = absurd (none-some item there)
     by (Some model) is there = in_model model there (place_of planned board is_board path model is)
 
-  -- what an item reads as data, and that it has no control and no edge
+  -- what an item locals_read as data, and that it has no control and no edge
   no_controls : (path : Path) (number : ℕ) (item : Item) → ItemOf path number item → controls_of item ≡ []
   no_controls path number item (a_placing node same) = controls_plain item ∙ ap plain_controls same
   no_controls path number item (a_cell node among is local at same) = controls_plain item ∙ ap plain_controls same ∙ controls_spelled local
@@ -161,7 +161,7 @@ module _ (planned : PlannedBoard) (sound : IsSound planned) (board : Design) (is
   no_edge path number item (a_placing node same) = edge_plain path item (ap plain_edge same)
   no_edge path number item (a_cell node among is local at same) = edge_plain path item (ap plain_edge same ∙ edge_spelled local)
 
-  -- a name that a node's item reads is that of a net that it reads well
+  -- a name that a node's item locals_read is that of a net that it locals_read well
   record ReadsNet (path : Path) (local : LocalItem) (name : Word) (node : ℕ) (among : node ≤ planned.board.chips) : Type 0 where
     net : Local
     name_is : spelled net ≡ name
@@ -170,9 +170,9 @@ module _ (planned : PlannedBoard) (sound : IsSound planned) (board : Design) (is
   reads_net : (path : Path) (number : ℕ) (item : Item) (node : ℕ) (among : node ≤ planned.board.chips) (local : LocalItem) → slice_get (node_items planned node) number ≡ Some local → plain_item item ≡ spelled_item local
       → (name : Word) → Has name (data_of item) → ReadsNet path local name node among
   reads_net path number item node among local at same name has =
-      let names : data_of item ≡ map spelled (reads local) = data_plain item ∙ ap plain_data same ∙ data_spelled local in
-      let from = from-map spelled name (reads local) (subst (λ (list : List Word). Has name list) names has) in
-      record { net = from.0; name_is = from.2; well = all_has (ReadsWell planned sound node among local) (reads local) (well_read planned sound node among local (origin planned node local (number, at))) from.0 from.1 }
+      let names : data_of item ≡ map spelled (locals_read local) = data_plain item ∙ ap plain_data same ∙ data_spelled local in
+      let from = from-map spelled name (locals_read local) (subst (λ (list : List Word). Has name list) names has) in
+      record { net = from.0; name_is = from.2; well = all_has (ReadsWell planned sound node among local) (locals_read local) (well_read planned sound node among local (origin planned node local (number, at))) from.0 from.1 }
 
   module _ (small : IsSmall board) where
     none : HasNoModelFault board
@@ -300,7 +300,7 @@ module _ (planned : PlannedBoard) (sound : IsSound planned) (board : Design) (is
           number_same : (p q : Path) (j k : ℕ) → at_cell p j ≡ at_cell q k → j ≡ k
           number_same p q j k e = cc
 
-    -- a gate has a greater rank than those that it reads
+    -- a gate has a greater rank than those that it locals_read
     table_rises : (node : ℕ) (among : node ≤ planned.board.chips) (local : LocalItem) (line : ℕ) (ins : List Word) (out : Word) (cover : Cover) → plain_item (Names line ins out cover) ≡ spelled_item local → (net : Local) → ReadsWell planned sound node among local net → rank planned net < rank planned (drives local)
     table_rises node among (local_table reads_these drives_this on rows) line ins out cover same net well = well.1
     table_rises node among (register next own init) line ins out cover same net well = cc

@@ -15,7 +15,7 @@ use Rattle.vw_plan.specs.declared.wire.Hop.{Hop}
 use Rattle.vw_plan.proofs.LinkDelays.{one_number, same_ends}
 use Rattle.vw_design.proofs.DistinctNames.{AreOnce, once_append}
 use Rattle.vw_design.proofs.ListElements.{Has, at-Has}
-use Rattle.vw_hardware.specs.Items.{User, catch_items, cell_items, delay_item, gate_items, hop_items, hops_to, late_name, latch_items, link_items, node_items, pin_items, pins_from, results, send_item, sequencer, stage, users, wire_items}
+use Rattle.vw_hardware.specs.Items.{User, catch_items, cell_items, delay_item, gate_items, hop_items, hops_to, late_name, latch_items, link_items, node_items, pin_items, pins_from, results, send_item, sequencer, ring_stage, users, wire_items}
 use Rattle.vw_hardware.specs.Locals.{Local, LocalItem, caught, column, coming, delayed, drives, gate, held, kept, moment, pin_in, pin_out, register, result, sent, table}
 use Rattle.vw_hardware.specs.Names.{name_at}
 use Rattle.vw_hardware.specs.Ports.{node_inputs, pin_ports, used_port}
@@ -61,15 +61,15 @@ module _ (planned : PlannedBoard) (sound : IsSound planned) (node : ℕ) where
   stage_part u stands = ⊎_elim (λ first. ap (λ i. part (drives i)) (sym first)) (λ is. ap (λ i. part (drives i)) (sym is.same)) (from_stages planned node u stands)
 
   stages_once : AreOnce (map drives (sequencer planned.plan.period))
-  stages_once = (fresh, once_gather drives (λ (net : Local). first_number net - 1) (λ before. stage before ∷ []) planned.plan.period (λ k below. ((λ has. has), tt)) keyed) where
-    keyed : (k : ℕ) (u : LocalItem) → StandsIn u (stage k ∷ []) → first_number (drives u) - 1 ≡ k
-    keyed k u stands = let same = ap (λ (i : LocalItem). first_number (drives i)) (only (stage k) u stands) in omega (arith, same)
+  stages_once = (fresh, once_gather drives (λ (net : Local). first_number net - 1) (λ before. ring_stage before ∷ []) planned.plan.period (λ k below. ((λ has. has), tt)) keyed) where
+    keyed : (k : ℕ) (u : LocalItem) → StandsIn u (ring_stage k ∷ []) → first_number (drives u) - 1 ≡ k
+    keyed k u stands = let same = ap (λ (i : LocalItem). first_number (drives i)) (only (ring_stage k) u stands) in omega (arith, same)
 
-    fresh : Has (moment 0) (map drives (gather (λ before. stage before ∷ []) planned.plan.period)) → ⊥
+    fresh : Has (moment 0) (map drives (gather (λ before. ring_stage before ∷ []) planned.plan.period)) → ⊥
     fresh has =
-        let from = from_values drives (moment 0) (gather (λ before. stage before ∷ []) planned.plan.period) has in
-        let given = from_gather from.0 (λ before. stage before ∷ []) planned.plan.period from.1 in
-        let one = ap (λ (i : LocalItem). first_number (drives i)) (only (stage given.number) from.0 given.stands) in
+        let from = from_values drives (moment 0) (gather (λ before. ring_stage before ∷ []) planned.plan.period) has in
+        let given = from_gather from.0 (λ before. ring_stage before ∷ []) planned.plan.period from.1 in
+        let one = ap (λ (i : LocalItem). first_number (drives i)) (only (ring_stage given.number) from.0 given.stands) in
         let two = ap first_number from.2 in
         omega (arith, one, two)
 

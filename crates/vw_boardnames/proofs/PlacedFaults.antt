@@ -14,7 +14,7 @@ use Rattle.vw_design.specs.Accepted.{HasNoModelFault}
 use Rattle.vw_design.specs.Counts.{IsRanking, is_below}
 use Rattle.vw_design.specs.Distinct.{has_name}
 use Rattle.vw_design.specs.Limits.{IsSmall}
-use Rattle.vw_design.specs.ModelFaults.{at_model, both_ways, by_placing, first_placing, is_formal_of, is_reached, model_places, names_model, reached, unbound_input, unbound_input_in, unknown_formal, unknown_formal_in, unknown_model}
+use Rattle.vw_design.specs.ModelFaults.{at_model, port_both_ways, by_placing, first_placing, is_formal_of, is_reached, model_places, names_model, reached, unbound_input, unbound_input_in, unknown_formal, unknown_formal_in, unknown_model}
 use Rattle.vw_design.specs.Paths.{Word, items_of, is_port, model_named}
 use Rattle.vw_design.specs.Preorder.{is_cell}
 use Rattle.vw_design.specs.declared.design.Design.{Design}
@@ -158,7 +158,7 @@ module _ (planned : PlannedBoard) (sound : IsSound planned) (board : Design) (is
       ap (λ (found : Option Model). option_map (λ formal. record { line = line; name = formal }) (option_and_then (λ model. unbound_input_in model binds) found)) own.2
       ∙ ap (λ (found : Option Word). option_map (λ formal. record { line = line; name = formal }) found) nothing)
 
-  no_both_ways : both_ways board ≡ None
+  no_both_ways : port_both_ways board ≡ None
   no_both_ways = none_placed (λ line name binds. option_map (λ output. record { model = name; name = output }) (at_model board (λ model. find (is_port model) model.outputs) name)) (λ line node binds among are.
       let own = named node among in
       let nothing : find (is_port own.0) own.0.outputs ≡ None = ap (find (is_port own.0)) (ap (λ (m : PlainModel). m.outputs) own.1.same) ∙ find_nothing (is_port own.0) (map spelled (node_outputs planned node)) (λ output has.

@@ -9,7 +9,7 @@ use Rattle.vw_plan.specs.declared.wire.Wire.{Wire}
 use Rattle.vw_plan.specs.Lead.{arrival}
 use Rattle.vw_plan.specs.PlannedBoard.{PlannedBoard}
 use Rattle.vw_net.specs.Sorting.{sorted}
-use Rattle.vw_prog.specs.Timetable.{link_place}
+use Rattle.vw_prog.specs.Timetable.{link_of_hop}
 use Rattle.vw_boardtext.specs.declared.numbered_hop.NumberedHop.{NumberedHop}
 use Rattle.vw_boardtext.specs.declared.outlet.Outlet.{Outlet}
 
@@ -17,7 +17,7 @@ use Rattle.vw_boardtext.specs.declared.outlet.Outlet.{Outlet}
 
 abbrev pub numbered_hop : List Link → ℕ → ℕ → ℕ → Hop → NumberedHop
 numbered_hop links net wire number hop = record {
-  link = link_place links hop;
+  link = link_of_hop links hop;
   pin = hop.pin;
   at = hop.at;
   wire = wire;

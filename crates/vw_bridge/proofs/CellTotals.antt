@@ -23,7 +23,7 @@ use Rattle.vw_boardtext.specs.Emitted.{emitted_cells, pin_cells}
 use Rattle.vw_boardtext.specs.Outlets.{hops_of_wire, hops_of_wires, leaves_before, numbered_hops, outlets, outlets_behind}
 use Rattle.vw_boardtext.specs.declared.numbered_hop.NumberedHop.{NumberedHop}
 use Rattle.vw_boardtext.specs.declared.outlet.Outlet.{Outlet}
-use Rattle.vw_hardware.specs.Items.{User, cell_items, delay_item, gate_items, hop_items, hops_to, latch_items, late_name, link_items, node_items, pin_items, pins_from, results, send_item, sequencer, stage, users, wire_items}
+use Rattle.vw_hardware.specs.Items.{User, cell_items, delay_item, gate_items, hop_items, hops_to, latch_items, late_name, link_items, node_items, pin_items, pins_from, results, send_item, sequencer, ring_stage, users, wire_items}
 use Rattle.vw_hardware.specs.Locals.{pin_out, result, table}
 use Rattle.vw_hardware.specs.Names.{name_at}
 use Rattle.vw_hardware.specs.Tables.{pass}
@@ -253,7 +253,7 @@ module _ (planned : PlannedBoard) (from count : ℕ) where
         (λ node. let long = length_listed (λ output net. table (name_at planned 0 net ∷ []) (result output) true pass) 0 planned.ordered.flat.outputs in omega (arith, long))
 
     stages_long : length (sequencer planned.plan.period) ≡ planned.plan.period + 1
-    stages_long = omega (arith, length_singles stage planned.plan.period)
+    stages_long = omega (arith, length_singles ring_stage planned.plan.period)
 
     pub items_total : total (λ node. length (node_items planned node)) from count
         ≤ count * (planned.plan.period + 1) + (length planned.ordered.flat.cells + latch_count planned.ordered.flat.cells)

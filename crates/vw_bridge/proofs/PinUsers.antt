@@ -16,7 +16,7 @@ use Rattle.vw_plan.specs.declared.wire.Hop.{Hop}
 use Rattle.vw_plan.specs.declared.wire.Wire.{Wire}
 use Rattle.vw_plan.proofs.HopLinks.{HopLink, hop_facts, one_link}
 use Rattle.vw_prog.proofs.HopPlaces.{hop_place}
-use Rattle.vw_prog.specs.Timetable.{link_place}
+use Rattle.vw_prog.specs.Timetable.{link_of_hop}
 use Rattle.vw_boardtext.specs.Outlets.{hops_of_wire, hops_of_wires, leaves_before, numbered_hop, numbered_hops}
 use Rattle.vw_boardtext.specs.declared.numbered_hop.NumberedHop.{NumberedHop}
 use Rattle.vw_boardtext.proofs.HopsByPins.{link_of, pin_of, time_of, wires_all}
@@ -80,13 +80,13 @@ module _ (planned : PlannedBoard) where
 
   module _ (sound : IsSound planned) (number : ℕ) (link : Link) (there : slice_get planned.board.links number ≡ Some link) where
     -- the link of a hop, by its number or by its ends
-    pub same_link : (hop : Hop) → HopLink planned.board hop → (link_place planned.board.links hop == number) ≡ carries hop link
+    pub same_link : (hop : Hop) → HopLink planned.board hop → (link_of_hop planned.board.links hop == number) ≡ carries hop link
     same_link hop own = ⊎_elim if_here if_not (cases_Bool (carries hop link)) where
-      if_here : carries hop link ≡ true → (link_place planned.board.links hop == number) ≡ carries hop link
-      if_here is = eq-eqb (link_place planned.board.links hop) number (hop_place planned.board hop own ∙ sym (one_link planned.board hop own number link there is)) ∙ sym is
+      if_here : carries hop link ≡ true → (link_of_hop planned.board.links hop == number) ≡ carries hop link
+      if_here is = eq-eqb (link_of_hop planned.board.links hop) number (hop_place planned.board hop own ∙ sym (one_link planned.board hop own number link there is)) ∙ sym is
 
-      if_not : carries hop link ≡ false → (link_place planned.board.links hop == number) ≡ carries hop link
-      if_not is = ne_eqb (link_place planned.board.links hop) number (λ same.
+      if_not : carries hop link ≡ false → (link_of_hop planned.board.links hop == number) ≡ carries hop link
+      if_not is = ne_eqb (link_of_hop planned.board.links hop) number (λ same.
           let place : own.number ≡ number = sym (hop_place planned.board hop own) ∙ same in
           let links : own.link ≡ link = same_Some own.link link (sym own.there ∙ ap (slice_get planned.board.links) place ∙ there) in
           true≢false (sym own.carried ∙ ap (carries hop) links ∙ is)) ∙ sym is

@@ -18,7 +18,7 @@ use Rattle.vw_plan.proofs.HopsOfWires.{at_place}
 use Rattle.vw_hardware.specs.Items.{User, node_items, send_item}
 use Rattle.vw_hardware.specs.Locals.{Local, LocalItem, gate, register, table}
 use Rattle.vw_hardware.specs.Names.{name_at}
-use Rattle.vw_hardware.specs.Tables.{marks_of, off_table}
+use Rattle.vw_hardware.specs.Tables.{cover_marks, off_table}
 use Rattle.vw_hardware.proofs.Origins.{IsGate, OfPin, Origin, leaves, of_first, of_gate, of_hop, of_latch, of_pins, of_result, of_stage, origin, sends, waits}
 use Rattle.vw_boardnames.specs.Boards.{PlainItem, spelled_item}
 use Rattle.vw_boardnames.specs.Spelled.{spelled}
@@ -61,10 +61,10 @@ module _ (ins : List Local) (out : Local) (inputs : ℕ) (wide : length ins ≡ 
   few : nat_le (length (map spelled ins)) 128 ≡ true
   few = le-leb (length (map spelled ins)) 128 (omega (arith, long, narrow))
 
-  even_rows : (rows : List Row) → ((row : Row) → Has row rows → length row.marks ≡ inputs) → list_all (λ row. length row == length (map spelled ins)) (marks_of rows) ≡ true
+  even_rows : (rows : List Row) → ((row : Row) → Has row rows → length row.marks ≡ inputs) → list_all (λ row. length row == length (map spelled ins)) (cover_marks rows) ≡ true
   even_rows [] even = refl
   even_rows (row ∷ rows) even =
-      and_from (length row.marks == length (map spelled ins)) (list_all (λ marks. length marks == length (map spelled ins)) (marks_of rows))
+      and_from (length row.marks == length (map spelled ins)) (list_all (λ marks. length marks == length (map spelled ins)) (cover_marks rows))
       (eq-eqb (length row.marks) (length (map spelled ins)) (even row (inl refl) ∙ sym long)) (even_rows rows (λ other has. even other (inr has)))
 
   copies : (count : ℕ) → length (replicate count Any) ≡ count
@@ -81,10 +81,10 @@ module _ (ins : List Local) (out : Local) (inputs : ℕ) (wide : length ins ≡ 
   off_shaped [] even =
       shaped true (replicate inputs Any ∷ [])
       (and_from (length (replicate inputs Any) == length (map spelled ins)) true (eq-eqb (length (replicate inputs Any)) (length (map spelled ins)) (copies inputs ∙ sym long)) refl) refl
-  off_shaped (row ∷ rows) even = shaped false (marks_of (row ∷ rows)) (even_rows (row ∷ rows) even) (not_empty row.marks (marks_of rows))
+  off_shaped (row ∷ rows) even = shaped false (cover_marks (row ∷ rows)) (even_rows (row ∷ rows) even) (not_empty row.marks (cover_marks rows))
 
-  pub gate_shaped : (on : Bool) (rows : List Row) → ((row : Row) → Has row rows → length row.marks ≡ inputs) → is_printable (spelled_item (cond on (table ins out true (marks_of rows)) (off_table ins out inputs rows))) ≡ true
-  gate_shaped true rows even = shaped true (marks_of rows) (even_rows rows even) refl
+  pub gate_shaped : (on : Bool) (rows : List Row) → ((row : Row) → Has row rows → length row.marks ≡ inputs) → is_printable (spelled_item (cond on (table ins out true (cover_marks rows)) (off_table ins out inputs rows))) ≡ true
+  gate_shaped true rows even = shaped true (cover_marks rows) (even_rows rows even) refl
   gate_shaped false rows even = off_shaped rows even
 
 -- ---- all of them

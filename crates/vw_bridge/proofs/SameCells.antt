@@ -20,7 +20,7 @@ use Rattle.vw_boardtext.specs.Nodes as nodes
 use Rattle.vw_hardware.specs.Items as items
 use Rattle.vw_hardware.specs.Locals.{Local, LocalItem, coming, gate, kept, moment, result, table}
 use Rattle.vw_hardware.specs.Names.{name_at}
-use Rattle.vw_hardware.specs.Tables.{choice, cover_table, marks_of, off_table, pass}
+use Rattle.vw_hardware.specs.Tables.{choice, cover_table, cover_marks, off_table, pass}
 use Rattle.vw_boardnames.specs.Spelled.{spelled}
 use Rattle.vw_bridge.proofs.JoinedWords.{item_text, register_text, rows_text, table_text}
 use Rattle.vw_bridge.proofs.SameNames.{name_is, names_are}
@@ -38,7 +38,7 @@ gathered_lines each line count is =
 
 -- ---- the sequencer
 
-stage_text : (before : ℕ) → items_text (items.stage before ∷ []) ≡ lines.blif_latch (names.stage_name before) (names.stage_name (before + 1)) (codes "0") ∷ []
+stage_text : (before : ℕ) → items_text (items.ring_stage before ∷ []) ≡ lines.blif_latch (names.stage_name before) (names.stage_name (before + 1)) (codes "0") ∷ []
 stage_text before =
     let next : suc before ≡ before + 1 = omega arith in
     ap (λ (list : List (List ℕ)). list ++ []) (register_text (moment before) (moment (suc before)) StartsAtZero)
@@ -47,13 +47,13 @@ stage_text before =
 pub sequencer_text : (period : ℕ) → items_text (items.sequencer period) ≡ nodes.sequencer period
 sequencer_text period =
     ap₂ (λ (one other : List (List ℕ)). one ++ other) (register_text (moment period) (moment 0) StartsAtOne)
-    (flat_map_gather item_text (λ before. items.stage before ∷ []) period
-    ∙ gathered_lines (λ before. items_text (items.stage before ∷ [])) (λ before. lines.blif_latch (names.stage_name before) (names.stage_name (before + 1)) (codes "0")) period stage_text)
+    (flat_map_gather item_text (λ before. items.ring_stage before ∷ []) period
+    ∙ gathered_lines (λ before. items_text (items.ring_stage before ∷ [])) (λ before. lines.blif_latch (names.stage_name before) (names.stage_name (before + 1)) (codes "0")) period stage_text)
 
 -- ---- gates
 
 rows_of_cover : (on : Bool) (value : List ℕ) (rows : List Row) → ((marks : List Mark) → lines.row_line marks value ≡ lines.row_line marks (value_word on))
-    → rows_text on (marks_of rows) ≡ lines.row_lines rows value
+    → rows_text on (cover_marks rows) ≡ lines.row_lines rows value
 rows_of_cover on value [] same = refl
 rows_of_cover on value (row ∷ rows) same = ap₂ (λ (first : List ℕ) (rest : List (List ℕ)). first ∷ rest) (sym (same row.marks)) (rows_of_cover on value rows same)
 
@@ -64,13 +64,13 @@ cover_text ins out cover = by cover.on cover.rows where
   off : (rows : List Row) → item_text (off_table ins out cover.inputs rows) ≡ lines.blif_names (map spelled ins ++ spelled out ∷ []) ∷ lines.off_lines cover.inputs rows
   off [] = table_text ins out true (replicate cover.inputs Any ∷ [])
   off (row ∷ rows) =
-      table_text ins out false (marks_of (row ∷ rows))
+      table_text ins out false (cover_marks (row ∷ rows))
       ∙ ap (λ (rest : List (List ℕ)). lines.blif_names (map spelled ins ++ spelled out ∷ []) ∷ rest) (rows_of_cover false (codes "0") (row ∷ rows) (λ marks. refl))
 
-  by : (on : Bool) (rows : List Row) → item_text (cond on (table ins out true (marks_of rows)) (off_table ins out cover.inputs rows))
+  by : (on : Bool) (rows : List Row) → item_text (cond on (table ins out true (cover_marks rows)) (off_table ins out cover.inputs rows))
       ≡ lines.blif_names (map spelled ins ++ spelled out ∷ []) ∷ cond on (lines.row_lines rows (codes "1")) (lines.off_lines cover.inputs rows)
   by true rows =
-      table_text ins out true (marks_of rows)
+      table_text ins out true (cover_marks rows)
       ∙ ap (λ (rest : List (List ℕ)). lines.blif_names (map spelled ins ++ spelled out ∷ []) ∷ rest) (rows_of_cover true (codes "1") rows (λ marks. refl))
   by false rows = off rows
 

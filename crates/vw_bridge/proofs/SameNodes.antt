@@ -19,7 +19,7 @@ use Rattle.vw_plan.specs.declared.wire.Hop.{Hop}
 use Rattle.vw_plan.specs.declared.wire.Wire.{Wire}
 use Rattle.vw_plan.proofs.HopLinks.{HopLink, hop_facts, one_link}
 use Rattle.vw_prog.proofs.HopPlaces.{hop_place}
-use Rattle.vw_prog.specs.Timetable.{link_place}
+use Rattle.vw_prog.specs.Timetable.{link_of_hop}
 use Rattle.vw_boardtext.specs.Lines as lines
 use Rattle.vw_boardtext.specs.Names as names
 use Rattle.vw_boardtext.specs.Nodes as nodes
@@ -52,11 +52,11 @@ module _ (planned : PlannedBoard) where
   caught_text net wire number hop own =
       let stage = names.stage_name (arrival planned.board.links hop) in
       let four = λ (pin old next : List ℕ). lines.blif_names (stage ∷ pin ∷ old ∷ next ∷ []) ∷ lines.choice_lines in
-      let pin : spelled (pin_in own.number hop.pin) ≡ names.pin_in_name (link_place planned.board.links hop) hop.pin = pin_in_is own.number hop.pin ∙ ap (λ (link : ℕ). names.pin_in_name link hop.pin) (sym (hop_place planned.board hop own)) in
+      let pin : spelled (pin_in own.number hop.pin) ≡ names.pin_in_name (link_of_hop planned.board.links hop) hop.pin = pin_in_is own.number hop.pin ∙ ap (λ (link : ℕ). names.pin_in_name link hop.pin) (sym (hop_place planned.board hop own)) in
       ap₂ (λ (one other : List (List ℕ)). one ++ (other ++ []))
       (table_text (moment (arrival planned.board.links hop) ∷ pin_in own.number hop.pin ∷ held wire number ∷ []) (caught wire number) true choice
       ∙ ap₂ (λ (at old : List ℕ). four at old (spelled (caught wire number))) pin (held_is wire number)
-      ∙ ap (four (names.pin_in_name (link_place planned.board.links hop) hop.pin) (names.register_name wire number)) (caught_is wire number))
+      ∙ ap (four (names.pin_in_name (link_of_hop planned.board.links hop) hop.pin) (names.register_name wire number)) (caught_is wire number))
       (register_text (caught wire number) (held wire number) StartsAtZero
       ∙ ap₂ (λ (next old : List ℕ). lines.blif_latch next old (codes "0") ∷ []) (caught_is wire number) (held_is wire number))
 

@@ -1,4 +1,5 @@
-//! Faults of the hops of wires, each by itself.
+//! Faults of the hops of wires, each by itself. Microcycles are at most 2 ^ 62 and delays at most 16, so an arrival, their
+//! sum, never passes the end of its type.
 ghost use Rattle.std.specs.Prelude.{◌≡◌, ◌≤◌, ◌<◌, ◌+◌, ◌^◌, length};
 ghost use Rattle.std.specs.List.{All};
 ghost use Rattle.vw_check.specs.HopFaults.{begins_at, broken_wire, broken_route, fits_route, is_later};

@@ -14,7 +14,7 @@ use Rattle.vw_course.specs.declared.unfinished.Unfinished.TheVariants.{ReadFault
 use Rattle.vw_course.specs.Vocabulary.{Vocabulary}
 use Rattle.vw_course.specs.Outside.{SeenOutside, Work, Carried, carried, CarriedPart, DidPart, FailedInPart, with_all}
 use Rattle.vw_course.specs.Course.{Again, once, again, Course, works, refuses, reads, makes}
-use Rattle.vw_course.specs.Follows.{Answer, Does, BreaksOff, EndsWorking, EndsRefused, EndsReading, Follows}
+use Rattle.vw_course.specs.Follows.{Answer, DoesWork, BreaksOff, EndsWorking, EndsRefused, EndsReading, Follows}
 use Rattle.vw_course.specs.Goes.{seen_outside}
 use Rattle.vw_course.specs.Stages.{answer_of}
 use Rattle.vw_course.specs.OnTexts.{summed, on_texts, EndsSummed}
@@ -37,7 +37,7 @@ carried_all (Some words) links =
 
 module _ (V : Vocabulary) (texts : List ℕ → List ℕ) where
   -- where each name has its text, all of the work is done, and nothing breaks it off
-  did_all : (over : Again V) (work did : Work V.Word) → Does over work (λ name. held (texts name)) did → did ≡ work
+  did_all : (over : Again V) (work did : Work V.Word) → DoesWork over work (λ name. held (texts name)) did → did ≡ work
   did_all once work did does = does
   did_all (again file name Broken Allowed) work did does = does
 
@@ -151,7 +151,7 @@ module _ (V : Vocabulary) (texts : List ℕ → List ℕ) where
       abbrev pub texts_before : SeenOutside V.Word
       texts_before = over_texts faults out before.links before
 
-      does_all : (over : Again V) (work : Work V.Word) → Does over work (λ name. held (texts name)) work
+      does_all : (over : Again V) (work : Work V.Word) → DoesWork over work (λ name. held (texts name)) work
       does_all once work = refl
       does_all (again file name Broken Allowed) work = refl
 

@@ -5,7 +5,7 @@ use Rattle.vw_course.specs.declared.unfinished.Unfinished.TheVariants.{ReadFault
 use Rattle.vw_course.specs.Vocabulary.{Vocabulary}
 use Rattle.vw_course.specs.Outside.{SeenOutside, Work}
 use Rattle.vw_course.specs.Course.{Again, once, again, Course, works, refuses, reads, makes}
-use Rattle.vw_course.specs.Follows.{May, Answer, IsDoneBy, Does, IsAgain, BreaksOff, EndsWorking, EndsRefused, EndsReading, EndsHere}
+use Rattle.vw_course.specs.Follows.{May, Answer, IsDoneBy, DoesWork, IsAgain, BreaksOff, EndsWorking, EndsRefused, EndsReading, EndsHere}
 use Rattle.vw_course.specs.Endings.{SeenCall, Ends, IsCallOf}
 use Rattle.vw_course.specs.Places.{IsOneOf, Files, StandsAt, IsHeldAgain, IsToWork, IsToRefuse, IsToMiss}
 use Rattle.vw_course.specs.Statuses.{DidSome, NoWork, IsRefusedFor, IsStopped, IsCarriedOut}
@@ -18,14 +18,14 @@ pub held_work : {Word : Type 0} (one : Told) (text : List ℕ) (Allowed : Work W
 held_work one text Allowed work did is does = subst (λ (t : Told). IsDoneBy Allowed t work did) is does
 
 module _ (V : Vocabulary) (told : List ℕ → Told) (files : Files V) where
-  does_all : (over : Again V) (work did : Work V.Word) → IsHeldAgain told files over → Does over work told did → did ≡ work
+  does_all : (over : Again V) (work did : Work V.Word) → IsHeldAgain told files over → DoesWork over work told did → did ≡ work
   does_all once work did is does = does
   does_all (again file name Broken Allowed) work did (one, text, is) does = held_work (told name) text Allowed work did is does
 
   done_work : (one : Told) (text : List ℕ) (Allowed : Work V.Word → Type 0) (work : Work V.Word) → one ≡ held text → IsDoneBy Allowed one work work
   done_work one text Allowed work is = subst (λ (t : Told). IsDoneBy Allowed t work work) (sym is) refl
 
-  pub does_work : (over : Again V) (work : Work V.Word) → IsHeldAgain told files over → Does over work told work
+  pub does_work : (over : Again V) (work : Work V.Word) → IsHeldAgain told files over → DoesWork over work told work
   does_work once work is = refl
   does_work (again file name Broken Allowed) work (one, text, is) = done_work (told name) text Allowed work is
 

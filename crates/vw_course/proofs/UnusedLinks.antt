@@ -6,7 +6,7 @@ use Rattle.vw_course.specs.Vocabulary.{Vocabulary}
 use Rattle.vw_course.specs.Outside.{SeenOutside, Work, carried, fronts, CarriedPart}
 use Rattle.vw_course.specs.Course.{Again, once, again, Course, works, refuses, reads, makes}
 use Rattle.vw_course.specs.OnTexts.{on_texts}
-use Rattle.vw_course.specs.Follows.{Answer, IsDoneBy, Does, EndsWorking, EndsRefused, EndsReading, Follows}
+use Rattle.vw_course.specs.Follows.{Answer, IsDoneBy, DoesWork, EndsWorking, EndsRefused, EndsReading, Follows}
 
 -- the work uses no links, nor does other work that is allowed where a file is read again
 abbrev pub WorksAlone : {V : Vocabulary} → Again V → Work V.Word → Type 0
@@ -29,7 +29,7 @@ module _ (V : Vocabulary) (before after : SeenOutside V.Word) where
   done_by Allowed absent work did own allowed is = ap (λ (w : Work V.Word). w.scripts) is ∙ own
   done_by Allowed (held text) work did own allowed is = ap (λ (w : Work V.Word). w.scripts) is ∙ own
 
-  unused : (over : Again V) (work did : Work V.Word) → WorksAlone over work → Does over work before.shelf.told did → did.scripts ≡ None
+  unused : (over : Again V) (work did : Work V.Word) → WorksAlone over work → DoesWork over work before.shelf.told did → did.scripts ≡ None
   unused once work did own does = ap (λ (w : Work V.Word). w.scripts) does ∙ own
   unused (again file name Broken Allowed) work did (own, allowed) does = done_by Allowed (before.shelf.told name) work did own allowed does
 

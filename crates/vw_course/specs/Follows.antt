@@ -31,9 +31,9 @@ IsDoneBy Allowed absent work did = did ≡ work
 IsDoneBy Allowed (held text) work did = did ≡ work
 
 -- the work that is done: all that the course says; where a file is read again of which nothing is told, what is allowed
-abbrev pub Does : {V : Vocabulary} → Again V → Work V.Word → (List ℕ → Told) → Work V.Word → Type 0
-Does once work told did = did ≡ work
-Does (again file name Broken Allowed) work told did = IsDoneBy Allowed (told name) work did
+abbrev pub DoesWork : {V : Vocabulary} → Again V → Work V.Word → (List ℕ → Told) → Work V.Word → Type 0
+DoesWork once work told did = did ≡ work
+DoesWork (again file name Broken Allowed) work told did = IsDoneBy Allowed (told name) work did
 
 -- the file that is read again
 abbrev pub IsAgain : {V : Vocabulary} → Again V → V.File → List ℕ → Type 0
@@ -50,16 +50,16 @@ BreaksOff (again file name Broken Allowed) told reason = (told name ≡ untold) 
 -- the work was done; or a part of it, and then a write or a read failed, memory ran out, or it was broken off
 abbrev pub EndsWorking : {V : Vocabulary} → Again V → Work V.Word → SeenOutside V.Word → SeenOutside V.Word → Answer V → Type 0
 EndsWorking {V = V} over work before after (Ok done) =
-    (did : Work V.Word) × Does over work before.shelf.told did × (after ≡ with_all did before)
+    (did : Work V.Word) × DoesWork over work before.shelf.told did × (after ≡ with_all did before)
 EndsWorking {V = V} over work before after (Err WriteFault) =
-    (did : Work V.Word) × Does over work before.shelf.told did × (after.shelf ≡ before.shelf) × FailedInPart did before after
+    (did : Work V.Word) × DoesWork over work before.shelf.told did × (after.shelf ≡ before.shelf) × FailedInPart did before after
 EndsWorking {V = V} over work before after (Err NoMemory) =
-    (did : Work V.Word) × Does over work before.shelf.told did × (after.shelf ≡ before.shelf) × DidPart did before after
+    (did : Work V.Word) × DoesWork over work before.shelf.told did × (after.shelf ≡ before.shelf) × DidPart did before after
 EndsWorking {V = V} over work before after (Err (ReadFault file)) =
-    (did : Work V.Word) × Does over work before.shelf.told did
+    (did : Work V.Word) × DoesWork over work before.shelf.told did
     × (name : List ℕ) × IsAgain over file name × CountsFault name before.shelf after.shelf × DidPart did before after
 EndsWorking {V = V} over work before after (Err (Refused reason)) =
-    (did : Work V.Word) × Does over work before.shelf.told did
+    (did : Work V.Word) × DoesWork over work before.shelf.told did
     × BreaksOff over before.shelf.told reason × (after.shelf ≡ before.shelf) × DidPart did before after
 
 -- nothing changed, and the call was refused for such a reason, or memory ran out

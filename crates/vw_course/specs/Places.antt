@@ -4,7 +4,7 @@ use Rattle.vw_outside.specs.Told.{Told, absent, held}
 use Rattle.vw_course.specs.Vocabulary.{Vocabulary}
 use Rattle.vw_course.specs.Outside.{Work}
 use Rattle.vw_course.specs.Course.{Again, once, again, Course, works, refuses, reads, makes}
-use Rattle.vw_course.specs.Follows.{Does, IsAgain, BreaksOff}
+use Rattle.vw_course.specs.Follows.{DoesWork, IsAgain, BreaksOff}
 
 -- it is one of these
 abbrev pub IsOneOf : {X : Type 0} → List X → X → Type 0
@@ -19,21 +19,21 @@ Files V = List (V.File × List ℕ)
 
 -- it does this work here
 abbrev pub WorksHere : {V : Vocabulary} → (List ℕ → Told) → Work V.Word → Course V → Type 0
-WorksHere told did (works over work) = Does over work told did
+WorksHere told did (works over work) = DoesWork over work told did
 WorksHere told did (refuses reason) = ⊥
 WorksHere told did (reads file name next) = ⊥
 WorksHere told did (makes A Good Bad Comes apart sure next) = ⊥
 
 -- it breaks this work off here, for this reason
 abbrev pub BreaksHere : {V : Vocabulary} → (List ℕ → Told) → V.Reason → Work V.Word → Course V → Type 0
-BreaksHere told reason did (works over work) = Does over work told did × BreaksOff over told reason
+BreaksHere told reason did (works over work) = DoesWork over work told did × BreaksOff over told reason
 BreaksHere told reason did (refuses other) = ⊥
 BreaksHere told reason did (reads file name next) = ⊥
 BreaksHere told reason did (makes A Good Bad Comes apart sure next) = ⊥
 
 -- it does this work here, and reads this file again
 abbrev pub ReadsAgainHere : {V : Vocabulary} → (List ℕ → Told) → V.File → List ℕ → Work V.Word → Course V → Type 0
-ReadsAgainHere told file name did (works over work) = Does over work told did × IsAgain over file name
+ReadsAgainHere told file name did (works over work) = DoesWork over work told did × IsAgain over file name
 ReadsAgainHere told file name did (refuses reason) = ⊥
 ReadsAgainHere told file name did (reads its own next) = ⊥
 ReadsAgainHere told file name did (makes A Good Bad Comes apart sure next) = ⊥

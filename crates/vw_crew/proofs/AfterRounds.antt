@@ -2,7 +2,7 @@
 use Rattle.std.proofs.Common.{◌≡◌, ◌<◌, ◌∷◌, ℕ, suc, List, [], length, map, get_or, set, ap₂, refl, sym, subst, ⊎_elim, arith}
 use Rattle.std.proofs.Math.Seq.{map-set_same}
 use Rattle.std.proofs.lemmas.Option.{get_or_from_slice_get, slice_get_within}
-use Rattle.vw_crew.specs.Groups.{AllAtWork, AllStay, AreAtWork, SeenGroup, Stays, marks_of, share_of}
+use Rattle.vw_crew.specs.Groups.{AllAtWork, AllStay, AreAtWork, SeenGroup, Stays, own_marks, share_of}
 use Rattle.vw_crew.proofs.Members.{got_set}
 
 map_each : {X : Type 0} (part : SeenGroup → X) (old new : List SeenGroup) → length new ≡ length old → ((number : ℕ) (default : SeenGroup) → number < length old → part (get_or new number default) ≡ part (get_or old number default)) → map part new ≡ map part old
@@ -19,8 +19,9 @@ module _ (old new : List SeenGroup) (long : length new ≡ length old) (each : (
 
   pub round_stays : AllStay old new
   round_stays = record {
+    numbers = map_each (λ (group : SeenGroup). group.number) old new long (λ number default below. (each number default below).1.number);
     shares = map_each (λ (group : SeenGroup). map share_of group.nodes) old new long (λ number default below. (each number default below).1.shares);
-    marks = map_each (λ (group : SeenGroup). map marks_of group.ends) old new long (λ number default below. (each number default below).1.marks);
+    marks = map_each (λ (group : SeenGroup). map own_marks group.ends) old new long (λ number default below. (each number default below).1.marks);
   }
 
 -- one group has gone on
@@ -30,6 +31,7 @@ module _ (groups : List SeenGroup) (number : ℕ) (new : SeenGroup) where
 
   pub turned_stay : (default : SeenGroup) → Stays (get_or groups number default) new → AllStay groups (set groups number new)
   turned_stay default stays = record {
+    numbers = map-set_same (λ (group : SeenGroup). group.number) groups number new default stays.number;
     shares = map-set_same (λ (group : SeenGroup). map share_of group.nodes) groups number new default stays.shares;
-    marks = map-set_same (λ (group : SeenGroup). map marks_of group.ends) groups number new default stays.marks;
+    marks = map-set_same (λ (group : SeenGroup). map own_marks group.ends) groups number new default stays.marks;
   }

@@ -7,7 +7,7 @@ use Rattle.vw_prog.specs.Fabric.{Carried}
 use Rattle.vw_prog.specs.Scripts.{script}
 use Rattle.vw_node.specs.declared.node.Node.{Node}
 use Rattle.vw_answer.specs.Answers.{IsFinished}
-use Rattle.vw_crew.specs.Groups.{SeenGroup, node_at}
+use Rattle.vw_crew.specs.Groups.{SeenGroup, group_node}
 use Rattle.vw_crew.specs.Laying.{AreThrough, HasSameNodes, IsCrew, carried_on}
 use Rattle.vw_crew.proofs.Carried.{carried_all}
 use Rattle.vw_crew.proofs.CrewStays.{finished}
@@ -18,7 +18,7 @@ pub all_carried : (job : Job) (carried : Carried) → carried_on job (length job
 all_carried job carried = carried_all job (λ link. length (script job link)) (length job.checked.board.links) carried (λ number below. refl) (λ number past. no_script job number past)
 
 -- node 0 is the first of the first group
-pub host_first : (groups : List SeenGroup) (group : SeenGroup) (node : Node) → (there : Node) × (node_at groups 0 ≡ Some there) → group ≡ get_or groups 0 group → slice_get group.nodes 0 ≡ Some node → node_at groups 0 ≡ Some node
+pub host_first : (groups : List SeenGroup) (group : SeenGroup) (node : Node) → (there : Node) × (group_node groups 0 ≡ Some there) → group ≡ get_or groups 0 group → slice_get group.nodes 0 ≡ Some node → group_node groups 0 ≡ Some node
 host_first [] group node has is here = let none = has.1 in cc
 host_first (first ∷ groups) group node has is here =
     let place : 0 / length (first ∷ groups) ≡ 0 = search rules in
@@ -29,11 +29,11 @@ host_first (first ∷ groups) group node has is here =
 
 module _ (job : Job) (keeps : Bool) (groups new : List SeenGroup) (crew : IsCrew job keeps groups) (done : AreThrough job groups) (same : HasSameNodes groups new) (number : ℕ) (inside : number < suc job.checked.board.chips) where
   -- the node with a number is still there
-  pub node_there : (node : Node) × (node_at new number ≡ Some node)
+  pub node_there : (node : Node) × (group_node new number ≡ Some node)
   node_there = let had = (crew.all number inside).0 in (had.0, same number ∙ had.1)
 
-  module _ (node : Node) (is : node_at new number ≡ Some node) where
-    was : node_at groups number ≡ Some node
+  module _ (node : Node) (is : group_node new number ≡ Some node) where
+    was : group_node groups number ≡ Some node
     was = sym (same number) ∙ is
 
     pub number_is : node.share.node ≡ number

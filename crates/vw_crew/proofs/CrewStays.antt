@@ -12,12 +12,12 @@ use Rattle.vw_prog.specs.Fabric.{SeenPutEnd, SeenTakeEnd}
 use Rattle.vw_prog.specs.Scripts.{planned_of, script, script_before}
 use Rattle.vw_prog.specs.Timetable.{entries_at, is_sent, is_taken, timetable}
 use Rattle.vw_node.specs.declared.node.Node.{Node}
-use Rattle.vw_node.specs.Fits.{IsFit, state_of}
+use Rattle.vw_node.specs.Fits.{FitsJob, state_of}
 use Rattle.vw_node.specs.Holding.{HoldsValues}
 use Rattle.vw_node.specs.Positions.{Agrees, sent_by, taken_by}
 use Rattle.vw_answer.specs.Answers.{IsFinished}
 use Rattle.vw_crew.specs.Ends.{SeenOwn, ends_of, keeps_of, put_at, sent_of, take_at, taken_of}
-use Rattle.vw_crew.specs.Groups.{AllAtWork, AllStay, IsAtWork, Marks, SeenGroup, marks_of, node_at, own_at, share_of}
+use Rattle.vw_crew.specs.Groups.{AllAtWork, AllStay, IsAtWork, Marks, SeenGroup, own_marks, group_node, own_at, share_of}
 use Rattle.vw_crew.specs.Laying.{AreHung, AreThrough, IsCrew, IsMarked}
 use Rattle.vw_crew.proofs.Dealt.{both_found}
 
@@ -37,45 +37,45 @@ module _ (old new : List SeenGroup) (stay : AllStay old new) where
   same_count : length new ≡ length old
   same_count = sym (length-map new (λ (group : SeenGroup). map share_of group.nodes)) ∙ ap (λ (rows : List (List Share)). length rows) stay.shares ∙ length-map old (λ (group : SeenGroup). map share_of group.nodes)
 
-  same_share : (number : ℕ) → option_map share_of (node_at new number) ≡ option_map share_of (node_at old number)
+  same_share : (number : ℕ) → option_map share_of (group_node new number) ≡ option_map share_of (group_node old number)
   same_share number =
       ap (λ (many : ℕ). option_map share_of (option_and_then (λ group. slice_get group.nodes (number / many)) (slice_get new (number % many)))) same_count
       ∙ found_in (λ group. group.nodes) share_of new (number % length old) (number / length old)
       ∙ ap (λ (rows : List (List Share)). option_and_then (λ row. slice_get row (number / length old)) (slice_get rows (number % length old))) stay.shares
       ∙ sym (found_in (λ group. group.nodes) share_of old (number % length old) (number / length old))
 
-  same_marks : (number : ℕ) → option_map marks_of (own_at new number) ≡ option_map marks_of (own_at old number)
+  same_marks : (number : ℕ) → option_map own_marks (own_at new number) ≡ option_map own_marks (own_at old number)
   same_marks number =
-      ap (λ (many : ℕ). option_map marks_of (option_and_then (λ group. slice_get group.ends (number / many)) (slice_get new (number % many)))) same_count
-      ∙ found_in (λ group. group.ends) marks_of new (number % length old) (number / length old)
+      ap (λ (many : ℕ). option_map own_marks (option_and_then (λ group. slice_get group.ends (number / many)) (slice_get new (number % many)))) same_count
+      ∙ found_in (λ group. group.ends) own_marks new (number % length old) (number / length old)
       ∙ ap (λ (rows : List (List Marks)). option_and_then (λ row. slice_get row (number / length old)) (slice_get rows (number % length old))) stay.marks
-      ∙ sym (found_in (λ group. group.ends) marks_of old (number % length old) (number / length old))
+      ∙ sym (found_in (λ group. group.ends) own_marks old (number % length old) (number / length old))
 
   pub crew_stays : (job : Job) (keeps : Bool) → IsCrew job keeps old → AllAtWork new → IsCrew job keeps new
   crew_stays job keeps crew work = record {
     some = subst (λ (many : ℕ). 0 < many) (sym same_count) crew.some;
     work = work;
     nodes = λ number node is.
-        let was = mapped_back share_of (node_at old number) node.share (sym (same_share number) ∙ ap (option_map share_of) is) in
+        let was = mapped_back share_of (group_node old number) node.share (sym (same_share number) ∙ ap (option_map share_of) is) in
         let had = crew.nodes number was.0 was.1.0 in
         (had.0, ap (λ (share : Share). share.node) (sym was.1.1) ∙ had.1);
     ends = λ number own is.
-        let was = mapped_back marks_of (own_at old number) (marks_of own) (sym (same_marks number) ∙ ap (option_map marks_of) is) in
+        let was = mapped_back own_marks (own_at old number) (own_marks own) (sym (same_marks number) ∙ ap (option_map own_marks) is) in
         subst (IsMarked job keeps number) was.1.1 (crew.ends number was.0 was.1.0);
     all = λ number inside.
         let had = crew.all number inside in
-        let node = mapped_back share_of (node_at new number) (had.0.0).share (same_share number ∙ ap (option_map share_of) had.0.1) in
-        let own = mapped_back marks_of (own_at new number) (marks_of had.1.0) (same_marks number ∙ ap (option_map marks_of) had.1.1) in
-        let node_there : (there : Node) × (node_at new number ≡ Some there) = (node.0, node.1.0) in
+        let node = mapped_back share_of (group_node new number) (had.0.0).share (same_share number ∙ ap (option_map share_of) had.0.1) in
+        let own = mapped_back own_marks (own_at new number) (own_marks had.1.0) (same_marks number ∙ ap (option_map own_marks) had.1.1) in
+        let node_there : (there : Node) × (group_node new number ≡ Some there) = (node.0, node.1.0) in
         let own_there : (there : SeenOwn) × (own_at new number ≡ Some there) = (own.0, own.1.0) in
         (node_there, own_there);
   }
 
 pub nothing_stays : (groups : List SeenGroup) → AllStay groups groups
-nothing_stays groups = record { shares = refl; marks = refl }
+nothing_stays groups = record { numbers = refl; shares = refl; marks = refl }
 
 pub further_stay : (first second third : List SeenGroup) → AllStay first second → AllStay second third → AllStay first third
-further_stay first second third one two = record { shares = two.shares ∙ one.shares; marks = two.marks ∙ one.marks }
+further_stay first second third one two = record { numbers = two.numbers ∙ one.numbers; shares = two.shares ∙ one.shares; marks = two.marks ∙ one.marks }
 
 -- all nodes of all groups are done
 pub through : (job : Job) (groups : List SeenGroup) (clocks : ℕ) → clocks ≡ length job.rows → ((number place : ℕ) (group : SeenGroup) (node : Node) → slice_get groups number ≡ Some group → slice_get group.nodes place ≡ Some node → node.clock ≡ clocks) → AreThrough job groups
@@ -87,7 +87,7 @@ through job groups clocks clocks_are done number node is =
 
 module _ (job : Job) (keeps : Bool) (groups : List SeenGroup) (crew : IsCrew job keeps groups) (done : AreThrough job groups) where
   -- a node and its ends are at work
-  pub at_work : (number : ℕ) (node : Node) (own : SeenOwn) → node_at groups number ≡ Some node → own_at groups number ≡ Some own → IsAtWork node own
+  pub at_work : (number : ℕ) (node : Node) (own : SeenOwn) → group_node groups number ≡ Some node → own_at groups number ≡ Some own → IsAtWork node own
   at_work number node own node_is own_is =
       let one = both_found (λ group. slice_get group.nodes (number / length groups)) (slice_get groups (number % length groups)) node node_is in
       let other = both_found (λ group. slice_get group.ends (number / length groups)) (slice_get groups (number % length groups)) own own_is in
@@ -95,7 +95,7 @@ module _ (job : Job) (keeps : Bool) (groups : List SeenGroup) (crew : IsCrew job
       crew.work (number % length groups) one.0 one.1.0 (number / length groups) node own one.1.1 (ap (λ (group : SeenGroup). slice_get group.ends (number / length groups)) (sym same) ∙ other.1.1)
 
   module _ (number : ℕ) (inside : number < suc job.checked.board.chips) where
-    abbrev there : (node : Node) × (node_at groups number ≡ Some node)
+    abbrev there : (node : Node) × (group_node groups number ≡ Some node)
     there = (crew.all number inside).0
 
     abbrev own_there : (own : SeenOwn) × (own_at groups number ≡ Some own)
@@ -110,7 +110,7 @@ module _ (job : Job) (keeps : Bool) (groups : List SeenGroup) (crew : IsCrew job
 
     pub finished : IsFinished job there.0
     finished = record {
-      fits = subst (λ (one : Job). IsFit one there.0) own_job (at_work number there.0 own_there.0 there.1 own_there.1).fits;
+      fits = subst (λ (one : Job). FitsJob one there.0) own_job (at_work number there.0 own_there.0 there.1 own_there.1).fits;
       holds = subst (λ (one : Job). HoldsValues one there.0.share.node (state_of there.0)) own_job (at_work number there.0 own_there.0 there.1 own_there.1).agrees.holds;
       clock = done number there.0 there.1;
     }

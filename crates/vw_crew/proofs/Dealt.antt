@@ -46,6 +46,7 @@ module _ (groups : List SeenGroup) (node : ℕ) (own : SeenOwn) (there : own_at 
     pub changes : Changes groups then_groups node after
     changes = record {
       count = same_count;
+      numbers = map-set_same (λ group. group.number) groups (node % count) new_group group (ap (λ (one : SeenGroup). one.number) (sym (get_or_from_slice_get groups (node % count) group group group_is)));
       nodes = map-set_same (λ group. group.nodes) groups (node % count) new_group group (ap (λ (one : SeenGroup). one.nodes) (sym (get_or_from_slice_get groups (node % count) group group group_is)));
       here = ap (λ (many : ℕ). option_and_then (λ group. slice_get group.ends (node / many)) (slice_get then_groups (node % many))) same_count
           ∙ ap (option_and_then (λ group. slice_get group.ends (node / count))) group_here

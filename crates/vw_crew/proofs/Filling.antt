@@ -13,7 +13,7 @@ use Rattle.vw_node.specs.Fits.{IsShare}
 use Rattle.vw_node.specs.Made.{IsMade}
 use Rattle.vw_node.specs.States.{start_state}
 use Rattle.vw_crew.specs.Ends.{SeenOwn}
-use Rattle.vw_crew.specs.Groups.{IsFirst, IsFirstGroup, IsOwnOf, SeenGroup, node_at, own_at}
+use Rattle.vw_crew.specs.Groups.{IsUnstarted, IsFirstGroup, IsOwnOf, SeenGroup, group_node, own_at}
 use Rattle.vw_crew.specs.Laying.{IsBare}
 use Rattle.vw_crew.proofs.Dealt.{both_found}
 
@@ -43,7 +43,7 @@ got_push list new other one is =
 pub record IsFilling (job : Job) (groups number node : ℕ) (nodes : List Node) (ends : List SeenOwn) : Type 0 where
   pub same : length nodes ≡ length ends
   pub next : node ≡ length nodes * groups + number
-  pub nodes_are : (place : ℕ) (there : Node) → slice_get nodes place ≡ Some there → IsFirst job (place * groups + number) there
+  pub nodes_are : (place : ℕ) (there : Node) → slice_get nodes place ≡ Some there → IsUnstarted job (place * groups + number) there
   pub ends_are : (place : ℕ) (own : SeenOwn) → slice_get ends place ≡ Some own → IsOwnOf job (place * groups + number) own
 
 module _ (job : Job) (groups number : ℕ) where
@@ -68,7 +68,7 @@ module _ (job : Job) (groups number : ℕ) where
     nodes_are = λ place there is. ⊎_elim (filling.nodes_are place there)
         (λ (last : (place ≡ length nodes) × (there ≡ one)).
         let at : place * groups + number ≡ node = ap (λ (many : ℕ). many * groups + number) last.0 ∙ sym filling.next in
-        subst (λ (any : ℕ). IsFirst job any there) (sym at) (subst (IsFirst job node) (sym last.1) first_here))
+        subst (λ (any : ℕ). IsUnstarted job any there) (sym at) (subst (IsUnstarted job node) (sym last.1) first_here))
         (got_push nodes one place there (ap (λ (list : List Node). slice_get list place) (sym nodes_is) ∙ is));
     ends_are = λ place there is. ⊎_elim (filling.ends_are place there)
         (λ (last : (place ≡ length ends) × (there ≡ own)).
@@ -76,7 +76,7 @@ module _ (job : Job) (groups number : ℕ) where
         subst (λ (any : ℕ). IsOwnOf job any there) (sym at) (subst (IsOwnOf job node) (sym last.1) own_of))
         (got_push ends own place there (ap (λ (list : List SeenOwn). slice_get list place) (sym ends_is) ∙ is));
   } where
-    first_here : IsFirst job node one
+    first_here : IsUnstarted job node one
     first_here = record {
       inside = inside;
       number_is = ap (λ (any : Share). any.node) made.same ∙ share_is;
@@ -84,8 +84,9 @@ module _ (job : Job) (groups number : ℕ) where
       state = made.starts job its ∙ ap (start_state job) share_is;
     }
 
-  pub all_filled : (node : ℕ) (nodes : List Node) (ends : List SeenOwn) → IsFilling job groups number node nodes ends → suc job.checked.board.chips ≤ node → IsFirstGroup job groups number (record { nodes = nodes; ends = ends })
+  pub all_filled : (node : ℕ) (nodes : List Node) (ends : List SeenOwn) → IsFilling job groups number node nodes ends → suc job.checked.board.chips ≤ node → IsFirstGroup job groups number (record { number = number; nodes = nodes; ends = ends })
   all_filled node nodes ends filling over = record {
+    number_is = refl;
     nodes = filling.nodes_are;
     ends = filling.ends_are;
     full = λ place inside.
@@ -107,7 +108,7 @@ bare_groups job groups count long some each = record {
   some = omega (arith, long, some);
   nodes = λ number node is.
       let found = both_found (λ group. slice_get group.nodes (number / length groups)) (slice_get groups (number % length groups)) node is in
-      subst (λ (any : ℕ). IsFirst job any node) (back number) ((first (number % length groups) found.0 found.1.0).nodes (number / length groups) node found.1.1);
+      subst (λ (any : ℕ). IsUnstarted job any node) (back number) ((first (number % length groups) found.0 found.1.0).nodes (number / length groups) node found.1.1);
   ends = λ number own is.
       let found = both_found (λ group. slice_get group.ends (number / length groups)) (slice_get groups (number % length groups)) own is in
       subst (λ (any : ℕ). IsOwnOf job any own) (back number) ((first (number % length groups) found.0 found.1.0).ends (number / length groups) own found.1.1);
@@ -116,7 +117,7 @@ bare_groups job groups count long some each = record {
       let places = (first (number % length groups) group.0 group.1).full (number / length groups) (subst (λ (any : ℕ). any < suc job.checked.board.chips) (sym (back number)) inside) in
       let node = there_is group.0.nodes (number / length groups) places.0 in
       let own = there_is group.0.ends (number / length groups) places.1 in
-      let node_there : (there : Node) × (node_at groups number ≡ Some there) = (node.0, ap (option_and_then (λ group. slice_get group.nodes (number / length groups))) group.1 ∙ node.1) in
+      let node_there : (there : Node) × (group_node groups number ≡ Some there) = (node.0, ap (option_and_then (λ group. slice_get group.nodes (number / length groups))) group.1 ∙ node.1) in
       let own_there : (there : SeenOwn) × (own_at groups number ≡ Some there) = (own.0, ap (option_and_then (λ group. slice_get group.ends (number / length groups))) group.1 ∙ own.1) in
       (node_there, own_there);
 } where

@@ -6,7 +6,7 @@ use Rattle.vw_prog.specs.declared.job.Job.{Job}
 use Rattle.vw_prog.specs.Ends.{SeenEnds}
 use Rattle.vw_node.specs.declared.step.Step.{Step}
 use Rattle.vw_node.specs.declared.step.Step.TheVariants.{Done, Empty, Full, Moved}
-use Rattle.vw_node.specs.Moves.{Goes, GoesOn, Makes, Steps}
+use Rattle.vw_node.specs.Moves.{Goes, MakesActions, Makes, Steps}
 use Rattle.vw_node.specs.States.{NodeState}
 use Rattle.vw_crew.specs.Groups.{Marks}
 
@@ -25,7 +25,7 @@ module _ (job : Job) (node : ℕ) where
   step_keeps old new before after (Empty link) (pin, net, is, same, took) = ap fixed took.0
   step_keeps old new before after Done (is, same, stay) = ap fixed stay
 
-  some_keep : (old new : NodeState) (before after : SeenEnds) (count : ℕ) → GoesOn job node old new before after count → fixed after ≡ fixed before
+  some_keep : (old new : NodeState) (before after : SeenEnds) (count : ℕ) → MakesActions job node old new before after count → fixed after ≡ fixed before
   some_keep old new before after zero (same, stay) = ap fixed stay
   some_keep old new before after (suc count) (state, ends, rest, final) = step_keeps state new ends after Moved final ∙ some_keep old state before ends count rest
 

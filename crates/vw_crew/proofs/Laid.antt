@@ -11,7 +11,7 @@ use Rattle.vw_prog.specs.Fabric.{Carried, SeenPutEnd, SeenTakeEnd, lifted}
 use Rattle.vw_prog.specs.Scripts.{script}
 use Rattle.vw_node.specs.declared.node.Node.{Node}
 use Rattle.vw_crew.specs.Ends.{SeenOwn, put_at, take_at}
-use Rattle.vw_crew.specs.Groups.{Changes, IsOwnOf, SeenGroup, node_at, own_at}
+use Rattle.vw_crew.specs.Groups.{Changes, IsOwnOf, SeenGroup, group_node, group_numbers, own_at}
 use Rattle.vw_crew.proofs.Carried.{carried_more, carried_none, carried_told}
 use Rattle.vw_crew.specs.Laying.{AreHung, HasSameNodes, IsBare, IsHung, carried_on}
 
@@ -20,7 +20,7 @@ use Rattle.vw_crew.specs.Laying.{AreHung, HasSameNodes, IsBare, IsHung, carried_
 abbrev look : List (List Node) → ℕ → Option Node
 look rows number = option_and_then (λ row. slice_get row (number / length rows)) (slice_get rows (number % length rows))
 
-by_look : (groups : List SeenGroup) (number : ℕ) → node_at groups number ≡ look (map (λ group. group.nodes) groups) number
+by_look : (groups : List SeenGroup) (number : ℕ) → group_node groups number ≡ look (map (λ group. group.nodes) groups) number
 by_look groups number =
     let all = map (λ (group : SeenGroup). group.nodes) groups in
     let long : length groups ≡ length all = sym (length-map groups (λ (group : SeenGroup). group.nodes)) in
@@ -55,7 +55,7 @@ module _ (job : Job) (old new : List SeenGroup) (node : ℕ) (own after : SeenOw
         let if_same = λ (same : number ≡ node). let whole : (own : SeenOwn) × (own_at new number ≡ Some own) = (after, ap (own_at new) same ∙ changes.here) in whole in
         let if_other = λ (apart : number ≡ node → ⊥). let whole : (own : SeenOwn) × (own_at new number ≡ Some own) = (had.1.0, changes.others number apart ∙ had.1.1) in whole in
         let own_there : (own : SeenOwn) × (own_at new number ≡ Some own) = ⊎_elim if_same if_other (cases_eq number node) in
-        let node_there : (there : Node) × (node_at new number ≡ Some there) = (had.0.0, nodes_stay old new node after changes number ∙ had.0.1) in
+        let node_there : (there : Node) × (group_node new number ≡ Some there) = (had.0.0, nodes_stay old new node after changes number ∙ had.0.1) in
         (node_there, own_there);
   }
 
@@ -114,12 +114,13 @@ module _ (job : Job) (old new : List SeenGroup) (node : ℕ) (own after : SeenOw
 pub record IsLifting (job : Job) (keeps : Bool) (count : ℕ) (moved : ℕ → ℕ) (first groups : List SeenGroup) (before carried : Carried) (done : ℕ) : Type 0 where
   pub hung : AreHung job keeps done count moved groups
   pub nodes : HasSameNodes first groups
+  pub numbers : group_numbers groups ≡ group_numbers first
   pub told : is_some carried ≡ is_some before
   pub carried_is : carried ≡ carried_on job done moved before
 
 module _ (job : Job) (keeps : Bool) (count : ℕ) (moved : ℕ → ℕ) (first : List SeenGroup) (before : Carried) where
   pub none_lifted : AreHung job keeps 0 count moved first → IsLifting job keeps count moved first first before before 0
-  none_lifted hung = record { hung = hung; nodes = λ number. refl; told = refl; carried_is = carried_none job moved before }
+  none_lifted hung = record { hung = hung; nodes = λ number. refl; numbers = refl; told = refl; carried_is = carried_none job moved before }
 
   module _ (groups : List SeenGroup) (carried : Carried) (done : ℕ) (lifting : IsLifting job keeps count moved first groups before carried done) (below : done < count) (link : Link) (link_is : slice_get job.checked.board.links done ≡ Some link) where
     abbrev pub hung_here : IsHung job keeps groups done (moved done) link.from link.to
@@ -152,6 +153,7 @@ module _ (job : Job) (keeps : Bool) (count : ℕ) (moved : ℕ → ℕ) (first :
             record {
               hung = later_hung;
               nodes = λ number. nodes_stay middle new link.to (record own { takes = set own.takes done None }) take_changes number ∙ nodes_stay groups middle link.from (record (hung_here.putter) { puts = set hung_here.putter.puts done None }) put_changes number ∙ lifting.nodes number;
+              numbers = take_changes.numbers ∙ put_changes.numbers ∙ lifting.numbers;
               told = ap (λ (any : Carried). is_some any) all ∙ carried_told job moved (done + 1) before;
               carried_is = all;
             }

@@ -11,12 +11,12 @@ use Rattle.vw_prog.specs.declared.job.Job.{Job}
 use Rattle.vw_prog.specs.Fabric.{SeenPutEnd, SeenTakeEnd}
 use Rattle.vw_prog.specs.Scripts.{script}
 use Rattle.vw_node.specs.declared.node.Node.{Node}
-use Rattle.vw_node.specs.Fits.{IsFit, state_of}
+use Rattle.vw_node.specs.Fits.{FitsJob, state_of}
 use Rattle.vw_node.specs.Positions.{Agrees, sent_by, taken_by}
 use Rattle.vw_node.specs.States.{NodeState, start_state}
 use Rattle.vw_node.proofs.Held.{start_holds}
 use Rattle.vw_crew.specs.Ends.{SeenOwn, ends_of, keeps_of, put_at, sent_of, take_at, taken_of}
-use Rattle.vw_crew.specs.Groups.{Changes, IsAtWork, IsFirst, IsOwnOf, SeenGroup, marks_of, node_at, own_at}
+use Rattle.vw_crew.specs.Groups.{Changes, IsAtWork, IsUnstarted, IsOwnOf, SeenGroup, own_marks, group_node, own_at}
 use Rattle.vw_crew.specs.Laying.{AreHung, IsBare, IsCrew, IsHung, IsMarked}
 use Rattle.vw_crew.proofs.Laid.{had_before, still_bare, still_hung}
 
@@ -129,8 +129,8 @@ module _ (job : Job) (keeps : Bool) where
     abbrev links : List Link
     links = job.checked.board.links
 
-    module _ (number : ℕ) (node : Node) (own : SeenOwn) (node_is : node_at groups number ≡ Some node) (own_is : own_at groups number ≡ Some own) where
-      first : IsFirst job number node
+    module _ (number : ℕ) (node : Node) (own : SeenOwn) (node_is : group_node groups number ≡ Some node) (own_is : own_at groups number ≡ Some own) where
+      first : IsUnstarted job number node
       first = laying.bare.nodes number node node_is
 
       its : IsOwnOf job number own
@@ -153,12 +153,12 @@ module _ (job : Job) (keeps : Bool) where
 
       pub at_work : IsAtWork node own
       at_work = record {
-        fits = subst (λ (one : Job). IsFit one node) (sym its.same_job) first.fits;
+        fits = subst (λ (one : Job). FitsJob one node) (sym its.same_job) first.fits;
         agrees = subst (λ (one : Job). Agrees one node.share.node (state_of node) (ends_of own)) (sym its.same_job)
             (subst (λ (at : ℕ). Agrees job at (state_of node) (ends_of own)) (sym first.number_is) (subst (λ (state : NodeState). Agrees job number state (ends_of own)) (sym first.state) agree));
       }
 
-    marked : (number : ℕ) (own : SeenOwn) → own_at groups number ≡ Some own → IsMarked job keeps number (marks_of own)
+    marked : (number : ℕ) (own : SeenOwn) → own_at groups number ≡ Some own → IsMarked job keeps number (own_marks own)
     marked number own own_is =
         let its = laying.bare.ends number own own_is in
         record {

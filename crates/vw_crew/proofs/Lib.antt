@@ -13,3 +13,4 @@ pub mod AfterRounds
 pub mod Sending
 pub mod CrewEnds
 pub mod DealtNodes
+pub mod Numbered

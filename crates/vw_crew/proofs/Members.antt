@@ -7,7 +7,7 @@ use Rattle.std.proofs.lemmas.List.{get_or-set_other, get_or-set_same, length-set
 use Rattle.std.proofs.lemmas.Option.{get_or_from_slice_get, slice_get-get_or, slice_get_within}
 use Rattle.vw_node.specs.declared.node.Node.{Node}
 use Rattle.vw_crew.specs.Ends.{SeenOwn}
-use Rattle.vw_crew.specs.Groups.{AreAtWork, IsAtWork, SeenGroup, Stays, marks_of, share_of}
+use Rattle.vw_crew.specs.Groups.{AreAtWork, IsAtWork, SeenGroup, Stays, own_marks, share_of}
 
 -- what is at a place after one was set
 pub got_set : {A : Type 0} (list : List A) (place : ℕ) (new : A) (other : ℕ) (one : A) → slice_get (set list place new) other ≡ Some one → ((other ≡ place) × (one ≡ new)) ⊎ (slice_get list other ≡ Some one)
@@ -35,7 +35,7 @@ got_other (first ∷ list) (suc place) new (suc other) apart = got_other list pl
 
 module _ (group : SeenGroup) (work : AreAtWork group) (place : ℕ) (node new : Node) (own after : SeenOwn) (node_is : slice_get group.nodes place ≡ Some node) (own_is : slice_get group.ends place ≡ Some own) where
   abbrev then_group : SeenGroup
-  then_group = record { nodes = set group.nodes place new; ends = set group.ends place after }
+  then_group = record group { nodes = set group.nodes place new; ends = set group.ends place after }
 
   pub gone_work : IsAtWork new after → AreAtWork then_group
   gone_work gone other there its there_is its_is =
@@ -53,14 +53,15 @@ module _ (group : SeenGroup) (work : AreAtWork group) (place : ℕ) (node new : 
       subst (λ (one : Node). IsAtWork one its) (sym same) (subst (IsAtWork new) (sym ours.1) gone))
       (λ (old : slice_get group.ends other ≡ Some its). work other there its before old) ends) nodes
 
-  pub gone_stays : new.share ≡ node.share → marks_of after ≡ marks_of own → Stays group then_group
+  pub gone_stays : new.share ≡ node.share → own_marks after ≡ own_marks own → Stays group then_group
   gone_stays share marks = record {
+    number = refl;
     shares = map-set_same share_of group.nodes place new node (share ∙ ap share_of (sym (get_or_from_slice_get group.nodes place node node node_is)));
-    marks = map-set_same marks_of group.ends place after own (marks ∙ ap marks_of (sym (get_or_from_slice_get group.ends place own own own_is)));
+    marks = map-set_same own_marks group.ends place after own (marks ∙ ap own_marks (sym (get_or_from_slice_get group.ends place own own own_is)));
   }
 
 pub stays_same : (group : SeenGroup) → Stays group group
-stays_same group = record { shares = refl; marks = refl }
+stays_same group = record { number = refl; shares = refl; marks = refl }
 
 pub stays_on : (first second third : SeenGroup) → Stays first second → Stays second third → Stays first third
-stays_on first second third one two = record { shares = two.shares ∙ one.shares; marks = two.marks ∙ one.marks }
+stays_on first second third one two = record { number = two.number ∙ one.number; shares = two.shares ∙ one.shares; marks = two.marks ∙ one.marks }

@@ -5,10 +5,10 @@ use Rattle.std.proofs.lemmas.List.{length-set}
 use Rattle.std.proofs.lemmas.Option.{none-some}
 use Rattle.vw_prog.specs.declared.job.Job.{Job}
 use Rattle.vw_prog.specs.declared.word.Word.{Word}
-use Rattle.vw_prog.specs.Ends.{Puts, Takes, counted, one_more, refused}
+use Rattle.vw_prog.specs.Ends.{Puts, Takes, counted_at, one_more, refused}
 use Rattle.vw_prog.specs.Fabric.{PutsOne, SeenPutEnd, SeenTakeEnd, TakesOne}
 use Rattle.vw_prog.specs.Scripts.{script}
-use Rattle.vw_crew.specs.Ends.{AreOwn, SeenOwn, empty_of, ends_of, full_of, keeps_of, put_at, room_of, sent_of, take_at, taken_of}
+use Rattle.vw_crew.specs.Ends.{AreOwn, SeenOwn, empty_of, ends_of, full_of, keeps_of, put_at, put_room, sent_of, take_at, taken_of}
 use Rattle.vw_crew.proofs.Places.{place_within, set_changes, set_fine, set_stays}
 
 module _ (own : SeenOwn) (are : AreOwn own) (link : ℕ) where
@@ -56,23 +56,23 @@ module _ (own : SeenOwn) (are : AreOwn own) (link : ℕ) where
       put_fine after (ap (λ (any : SeenPutEnd). any.link) puts.ends) (ap (λ (any : SeenPutEnd). any.words) puts.ends),
       record { ends = all; refused = inl refl; room = λ told. absurd (true≢false (sym told)) },
     ) where
-      sent : (ends_of (then_puts after)).sent ≡ counted link (ends_of own).sent
+      sent : (ends_of (then_puts after)).sent ≡ counted_at link (ends_of own).sent
       sent = set_changes own.puts link put_within (Some after) (λ other place. sent_of (words other) place) (λ count. count + 1) (ap (λ (any : SeenPutEnd). any.sent) puts.ends ∙ ap (λ (place : Option SeenPutEnd). sent_of (words link) place + 1) (sym there))
 
       full : (ends_of (then_puts after)).full ≡ (ends_of own).full
       full = set_stays own.puts link put_within (Some after) (λ other place. full_of place) (ap (λ (any : SeenPutEnd). any.full) puts.ends ∙ ap full_of (sym there))
 
       room : (ends_of (then_puts after)).room ≡ (ends_of own).room
-      room = set_stays own.puts link put_within (Some after) (λ other place. room_of place) (ap (λ (any : SeenPutEnd). any.room) puts.ends ∙ ap room_of (sym there))
+      room = set_stays own.puts link put_within (Some after) (λ other place. put_room place) (ap (λ (any : SeenPutEnd). any.room) puts.ends ∙ ap put_room (sym there))
 
-      all : ends_of (then_puts after) ≡ record (ends_of own) { sent = counted link (ends_of own).sent }
+      all : ends_of (then_puts after) ≡ record (ends_of own) { sent = counted_at link (ends_of own).sent }
       all = λ i. record (ends_of own) { sent = sent i; full = full i; room = room i }
     put_done false after puts = (
       put_fine after (ap (λ (any : SeenPutEnd). any.link) puts.ends) (ap (λ (any : SeenPutEnd). any.words) puts.ends),
       record { ends = all; refused = ⊎_elim inl (λ full. inr (is_full full)) puts.refused; room = λ told. absurd (true≢false (sym told)) },
     ) where
       is_full : end.room ≤ end.sent → (ends_of own).room link ≤ (ends_of own).sent link
-      is_full full = subst (λ (place : Option SeenPutEnd). room_of place ≤ sent_of (words link) place) (sym there) full
+      is_full full = subst (λ (place : Option SeenPutEnd). put_room place ≤ sent_of (words link) place) (sym there) full
 
       sent : (ends_of (then_puts after)).sent ≡ (ends_of own).sent
       sent = set_stays own.puts link put_within (Some after) (λ other place. sent_of (words other) place) (ap (λ (any : SeenPutEnd). any.sent) puts.ends ∙ ap (sent_of (words link)) (sym there))
@@ -81,7 +81,7 @@ module _ (own : SeenOwn) (are : AreOwn own) (link : ℕ) where
       full = set_changes own.puts link put_within (Some after) (λ other place. full_of place) one_more (ap (λ (any : SeenPutEnd). any.full) puts.ends ∙ ap (λ (place : Option SeenPutEnd). one_more (full_of place)) (sym there))
 
       room : (ends_of (then_puts after)).room ≡ (ends_of own).room
-      room = set_stays own.puts link put_within (Some after) (λ other place. room_of place) (ap (λ (any : SeenPutEnd). any.room) puts.ends ∙ ap room_of (sym there))
+      room = set_stays own.puts link put_within (Some after) (λ other place. put_room place) (ap (λ (any : SeenPutEnd). any.room) puts.ends ∙ ap put_room (sym there))
 
       all : ends_of (then_puts after) ≡ record (ends_of own) { full = refused link (ends_of own).full }
       all = λ i. record (ends_of own) { sent = sent i; full = full i; room = room i }
@@ -106,7 +106,7 @@ module _ (own : SeenOwn) (are : AreOwn own) (link : ℕ) where
       take_fine after (ap (λ (any : SeenTakeEnd). any.link) is) (ap (λ (any : SeenTakeEnd). any.words) is),
       (all, its, λ told. absurd (true≢false (sym told))),
     ) where
-      taken : (ends_of (then_takes after)).taken ≡ counted link (ends_of own).taken
+      taken : (ends_of (then_takes after)).taken ≡ counted_at link (ends_of own).taken
       taken = set_changes own.takes link take_within (Some after) (λ other place. taken_of (words other) place) (λ count. count + 1) (ap (λ (any : SeenTakeEnd). any.taken) is ∙ ap (λ (place : Option SeenTakeEnd). taken_of (words link) place + 1) (sym there))
 
       empty : (ends_of (then_takes after)).empty ≡ (ends_of own).empty
@@ -115,7 +115,7 @@ module _ (own : SeenOwn) (are : AreOwn own) (link : ℕ) where
       keeps : (ends_of (then_takes after)).keeps ≡ (ends_of own).keeps
       keeps = set_stays own.takes link take_within (Some after) (λ other place. keeps_of place) (ap (λ (any : SeenTakeEnd). any.keeps) is ∙ ap keeps_of (sym there))
 
-      all : ends_of (then_takes after) ≡ record (ends_of own) { taken = counted link (ends_of own).taken }
+      all : ends_of (then_takes after) ≡ record (ends_of own) { taken = counted_at link (ends_of own).taken }
       all = λ i. record (ends_of own) { taken = taken i; empty = empty i; keeps = keeps i }
 
       its : slice_get (words link) (taken_of (words link) (take_at own link)) ≡ Some word

@@ -36,7 +36,7 @@ share_send lifetimes = search (sendable, crosses, checked_sync) depth 40 fits 20
 
 node_send : (lifetimes : NamedLft) → IsSend (node.the_row lifetimes)
 node_send lifetimes = declared_send (node.the_type lifetimes)
-    (share_send lifetimes, (search (sendable, crosses, code_sync) depth 40 fits 20000, (search (sendable, crosses) depth 40 fits 20000, (search (sendable, crosses) depth 40 fits 20000, (search (sendable, crosses) depth 40 fits 20000, (search (sendable, crosses) depth 40 fits 20000, (search (sendable, crosses) depth 40 fits 20000, (search (sendable, crosses) depth 40 fits 20000, (search (sendable, crosses) depth 40 fits 20000, tt)))))))))
+    (share_send lifetimes, (search (sendable, crosses, code_sync) depth 40 fits 20000, (search (sendable, crosses) depth 40 fits 20000, (search (sendable, crosses) depth 40 fits 20000, (search (sendable, crosses) depth 40 fits 20000, (search (sendable, crosses) depth 40 fits 20000, (search (sendable, crosses) depth 40 fits 20000, (search (sendable, crosses) depth 40 fits 20000, tt))))))))
 
 ends_send : (T U : RattleType) (t : put_end.Ghosts T.Denot) (u : take_end.Ghosts U.Denot) → IsSend T → IsSend U → IsSend (ends.the_row T U t u)
 ends_send T U t u send_t send_u = search (sendable, crosses) depth 40 fits 20000

@@ -47,9 +47,9 @@ empty_of None = 0
 empty_of (Some end) = end.empty
 
 -- how many words a link holds at most, where the node has the end at which they are put in
-abbrev pub room_of : Option SeenPutEnd → ℕ
-room_of None = 0
-room_of (Some end) = end.room
+abbrev pub put_room : Option SeenPutEnd → ℕ
+put_room None = 0
+put_room (Some end) = end.room
 
 -- whether the words that are taken are kept, where the node takes them
 abbrev pub keeps_of : Option SeenTakeEnd → Bool
@@ -65,7 +65,7 @@ ends_of own = record {
   taken = λ link. taken_of (script own.job link) (take_at own link);
   full = λ link. full_of (put_at own link);
   empty = λ link. empty_of (take_at own link);
-  room = λ link. room_of (put_at own link);
+  room = λ link. put_room (put_at own link);
   keeps = λ link. keeps_of (take_at own link);
   told = false;
 }
@@ -80,11 +80,11 @@ abbrev pub FitsTake : SeenOwn → ℕ → SeenTakeEnd → Type 0
 FitsTake own link end = (link < length own.job.checked.board.links) × (end.link ≡ link) × (end.words ≡ script own.job link)
 
 -- the node has such an end
-abbrev pub HasPut : SeenOwn → ℕ → Type 0
-HasPut own link = (end : SeenPutEnd) × (put_at own link ≡ Some end)
+abbrev pub HasPutEnd : SeenOwn → ℕ → Type 0
+HasPutEnd own link = (end : SeenPutEnd) × (put_at own link ≡ Some end)
 
-abbrev pub HasTake : SeenOwn → ℕ → Type 0
-HasTake own link = (end : SeenTakeEnd) × (take_at own link ≡ Some end)
+abbrev pub HasTakeEnd : SeenOwn → ℕ → Type 0
+HasTakeEnd own link = (end : SeenTakeEnd) × (take_at own link ≡ Some end)
 
 -- it was this one
 abbrev pub GivesPut : SeenOwn → ℕ → SeenPutEnd → Type 0

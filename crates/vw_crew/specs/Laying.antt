@@ -7,7 +7,7 @@ use Rattle.vw_prog.specs.Fabric.{Carried, SeenPutEnd, SeenTakeEnd}
 use Rattle.vw_prog.specs.Scripts.{script}
 use Rattle.vw_node.specs.declared.node.Node.{Node}
 use Rattle.vw_crew.specs.Ends.{SeenOwn, put_at, take_at}
-use Rattle.vw_crew.specs.Groups.{AllAtWork, IsFirst, IsOwnOf, Marks, SeenGroup, marks_of, node_at, own_at}
+use Rattle.vw_crew.specs.Groups.{AllAtWork, IsUnstarted, IsOwnOf, Marks, SeenGroup, own_marks, group_node, own_at}
 
 -- a link that is laid, and over which so many words were sent and taken: the node that it leaves has the one end, and the node
 -- that it reaches the other, which keeps its words or doesn't
@@ -43,9 +43,9 @@ carried_on job count taken carried = option_map (λ words number. if nat_lt numb
 -- the nodes of a job in their groups, before any action and without ends
 pub record IsBare (job : Job) (groups : List SeenGroup) : Type 0 where
   pub some : 0 < length groups
-  pub nodes : (number : ℕ) (node : Node) → node_at groups number ≡ Some node → IsFirst job number node
+  pub nodes : (number : ℕ) (node : Node) → group_node groups number ≡ Some node → IsUnstarted job number node
   pub ends : (number : ℕ) (own : SeenOwn) → own_at groups number ≡ Some own → IsOwnOf job number own
-  pub all : (number : ℕ) → number < suc job.checked.board.chips → ((node : Node) × (node_at groups number ≡ Some node)) × ((own : SeenOwn) × (own_at groups number ≡ Some own))
+  pub all : (number : ℕ) → number < suc job.checked.board.chips → ((node : Node) × (group_node groups number ≡ Some node)) × ((own : SeenOwn) × (own_at groups number ≡ Some own))
 
 -- the ends of a node: those of the links that reach it keep their words exactly where they are told
 pub record IsMarked (job : Job) (told : Bool) (number : ℕ) (marks : Marks) : Type 0 where
@@ -58,14 +58,14 @@ pub record IsMarked (job : Job) (told : Bool) (number : ℕ) (marks : Marks) : T
 pub record IsCrew (job : Job) (told : Bool) (groups : List SeenGroup) : Type 0 where
   pub some : 0 < length groups
   pub work : AllAtWork groups
-  pub nodes : (number : ℕ) (node : Node) → node_at groups number ≡ Some node → (number < suc job.checked.board.chips) × (node.share.node ≡ number)
-  pub ends : (number : ℕ) (own : SeenOwn) → own_at groups number ≡ Some own → IsMarked job told number (marks_of own)
-  pub all : (number : ℕ) → number < suc job.checked.board.chips → ((node : Node) × (node_at groups number ≡ Some node)) × ((own : SeenOwn) × (own_at groups number ≡ Some own))
+  pub nodes : (number : ℕ) (node : Node) → group_node groups number ≡ Some node → (number < suc job.checked.board.chips) × (node.share.node ≡ number)
+  pub ends : (number : ℕ) (own : SeenOwn) → own_at groups number ≡ Some own → IsMarked job told number (own_marks own)
+  pub all : (number : ℕ) → number < suc job.checked.board.chips → ((node : Node) × (group_node groups number ≡ Some node)) × ((own : SeenOwn) × (own_at groups number ≡ Some own))
 
 -- all nodes have finished all clocks
 abbrev pub AreThrough : Job → List SeenGroup → Type 0
-AreThrough job groups = (number : ℕ) (node : Node) → node_at groups number ≡ Some node → node.clock ≡ length job.rows
+AreThrough job groups = (number : ℕ) (node : Node) → group_node groups number ≡ Some node → node.clock ≡ length job.rows
 
 -- the nodes are as they were
 abbrev pub HasSameNodes : List SeenGroup → List SeenGroup → Type 0
-HasSameNodes old new = (number : ℕ) → node_at new number ≡ node_at old number
+HasSameNodes old new = (number : ℕ) → group_node new number ≡ group_node old number

@@ -3,10 +3,11 @@ use Rattle.std.specs.Prelude.{◌≡◌, ◌<◌, ◌%◌, ℕ, Bool, List, leng
 use Rattle.std.specs.List.{Contains}
 use Rattle.vw_prog.specs.declared.job.Job.{Job}
 
--- its job, the numbers of the nodes of each of its groups, whether its receiving ends keep the words that they take, and whether
--- all nodes were brought to the end
+-- its job, the number of each of its groups, the one that its bursts are to tell the gate, the numbers of the nodes of each group,
+-- whether its receiving ends keep the words that they take, and whether all nodes were brought to the end
 pub record SeenCrew : Type 0 where
   pub job : Job
+  pub numbers : List ℕ
   pub groups : List (List ℕ)
   pub keeps : Bool
   pub done : Bool

@@ -1,4 +1,5 @@
-ghost use Rattle.std.specs.Prelude.{◌≡◌, ◌≤◌, ◌+◌, ◌++◌, true, option_map, IfOk};
+ghost use Rattle.std.specs.Prelude.{◌≡◌, ◌≤◌, ◌+◌, ◌++◌, length, true, option_map, IfOk};
+ghost use Rattle.std.specs.List.{range_with_len};
 ghost use Rattle.std.specs.Option.{is_some};
 ghost use Rattle.vw_net.specs.History.{outputs_of, state_after, states_of};
 ghost use Rattle.vw_prog.specs.Actions.{ArePrograms};
@@ -20,8 +21,8 @@ use vw_outside::BurstGate;
 use vw_prog::{Answer, Fabric, Job, Programs};
 
 /// The nodes of a board in a job, in groups that work at the same time, with their words on links that a fabric has laid. It
-/// borrows the job and the programs. Contracts see the job, which nodes each group has, whether its receiving ends keep their words,
-/// and whether its nodes were brought to the end.
+/// borrows the job and the programs. Contracts see the job, which number and which nodes each group has, whether its receiving ends
+/// keep their words, and whether its nodes were brought to the end.
 #[derive(Drop)]
 pub struct Crew<'a, F: Fabric> {
     job: &'a Job,
@@ -38,7 +39,7 @@ impl<'a, F: Fabric> Model for Crew<'a, F> {
     ghost use Rattle.std.specs.Prelude.{◌≡◌, true};
     ghost use Rattle.std.specs.Option.{is_some};
     ghost use Rattle.vw_answer.specs.Answers.{HasTold};
-    ghost use Rattle.vw_crew.specs.Groups.{numbers_of};
+    ghost use Rattle.vw_crew.specs.Groups.{group_numbers, node_numbers};
     ghost use Rattle.vw_crew.specs.Laying.{AreThrough, IsCrew};
     ghost use Rattle.vw_crew.specs.Seen.{SeenCrew};
 
@@ -46,7 +47,8 @@ impl<'a, F: Fabric> Model for Crew<'a, F> {
 
     ghost view = { λ crew. record {
       job = crew.job.now;
-      groups = numbers_of crew.groups.items;
+      numbers = group_numbers crew.groups.items;
+      groups = node_numbers crew.groups.items;
       keeps = is_some (F.carried crew.laid_by.value);
       done = crew.done;
     } };
@@ -59,8 +61,8 @@ impl<'a, F: Fabric> Model for Crew<'a, F> {
 
 impl<'a, F: Fabric> Crew<'a, F> {
     /// The crew of a job at the start, of which these are the programs, in as many groups as there are workers, or nodes if they
-    /// are fewer. It lays each link once, and takes all memory of the job: for the nodes and all that they will record, for
-    /// their ends, and for the answer. On a refusal all that was laid is lifted.
+    /// are fewer, with the numbers 0, 1 and so on in their order. It lays each link once, and takes all memory of the job: for the
+    /// nodes and all that they will record, for their ends, and for the answer. On a refusal all that was laid is lifted.
     pub fn make(
         alloc: Global,
         programs: &'a Programs,
@@ -75,6 +77,8 @@ impl<'a, F: Fabric> Crew<'a, F> {
         ensures job { IfOk result (λ crew. crew.job ≡ job.now) }
         ensures groups { IfOk result (λ crew. AreDealt workers (job.now.checked.board.chips + 1)
             crew.groups) }
+        ensures numbers { IfOk result (λ crew. crew.numbers
+            ≡ range_with_len 0 (length crew.groups)) }
         ensures keeps { IfOk result (λ crew. crew.keeps ≡ is_some (F.carried fabric.old)) }
     {
         let room = Room::make(alloc, job)?;
@@ -93,7 +97,8 @@ impl<'a, F: Fabric> Crew<'a, F> {
 
     /// Brings all nodes to the end, by rounds in which all groups work at the same time, each in a thread of its own where one
     /// can be started. Where the pace of the run says that rounds aren't worth their threads, the calling thread makes the
-    /// actions of all nodes between two rounds. It may wait for ever. It takes no memory.
+    /// actions of all nodes between two rounds. Each group tells the gate its number before each of its bursts, which no clause
+    /// says, since clauses see nothing of a gate. It may wait for ever. It takes no memory.
     pub fn finish<R: Threads + Wait + Sync, G: BurstGate>(
         &mut self,
         rt: &R,
@@ -102,6 +107,7 @@ impl<'a, F: Fabric> Crew<'a, F> {
     )
         ensures job { self.new.job ≡ self.old.job }
         ensures groups { self.new.groups ≡ self.old.groups }
+        ensures numbers { self.new.numbers ≡ self.old.numbers }
         ensures keeps { self.new.keeps ≡ self.old.keeps }
         ensures done { self.new.done ≡ true }
     {

@@ -1,6 +1,6 @@
 //! The ends of the links of a node.
 ghost use Rattle.std.specs.Prelude.{◌≡◌, slice_set, replicate, Some, None, IfOk};
-ghost use Rattle.vw_crew.specs.Ends.{FitsPut, FitsTake, GivesPut, GivesTake, HasPut, HasTake};
+ghost use Rattle.vw_crew.specs.Ends.{FitsPut, FitsTake, GivesPut, GivesTake, HasPutEnd, HasTakeEnd};
 ghost use Rattle.vw_crew.specs.Groups.{IsOwnOf};
 
 use std::alloc::{AllocError, Global};
@@ -89,7 +89,7 @@ impl<T: PutEnd, U: TakeEnd> NodeEnds<T, U> {
 
     /// The end at which words are put into a link, given up.
     pub fn lift_put(&mut self, link: u32) -> T
-        requires { HasPut self.old link }
+        requires { HasPutEnd self.old link }
         ensures end { GivesPut self.old link (T.seen result) }
         ensures rest { self.new ≡ record self.old { puts = slice_set self.old.puts link None } }
     {
@@ -101,7 +101,7 @@ impl<T: PutEnd, U: TakeEnd> NodeEnds<T, U> {
 
     /// The end at which words are taken from a link, given up.
     pub fn lift_take(&mut self, link: u32) -> U
-        requires { HasTake self.old link }
+        requires { HasTakeEnd self.old link }
         ensures end { GivesTake self.old link (U.seen result) }
         ensures rest { self.new ≡ record self.old { takes = slice_set self.old.takes link None } }
     {

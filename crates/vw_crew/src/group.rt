@@ -3,7 +3,7 @@ ghost use Rattle.std.specs.Bool.{OnFalse, OnTrue};
 ghost use Rattle.vw_prog.specs.Actions.{ArePrograms};
 ghost use Rattle.vw_prog.specs.Scripts.{planned_of};
 ghost use Rattle.vw_node.specs.declared.node.Node.{Node};
-ghost use Rattle.vw_crew.specs.Ends.{FitsPut, FitsTake, GivesPut, GivesTake, HasPut, HasTake, SeenOwn};
+ghost use Rattle.vw_crew.specs.Ends.{FitsPut, FitsTake, GivesPut, GivesTake, HasPutEnd, HasTakeEnd, SeenOwn};
 ghost use Rattle.vw_crew.specs.Groups.{AreAtWork, IsFirstGroup, Stays};
 
 use crate::ends::NodeEnds;
@@ -37,7 +37,11 @@ impl<'a, T: PutEnd, U: TakeEnd> Model for Group<'a, T, U> {
 
     ghost Value = { SeenGroup };
 
-    ghost view = { λ group. record { nodes = group.nodes.items; ends = group.ends.items } };
+    ghost view = { λ group. record {
+      number = group.number;
+      nodes = group.nodes.items;
+      ends = group.ends.items;
+    } };
 
     ghost invariant = { λ group. length group.nodes.items ≡ length group.ends.items };
 }
@@ -73,7 +77,9 @@ impl<'a, T: PutEnd, U: TakeEnd> Group<'a, T, U> {
     }
 
     /// The number of the group.
-    pub fn number(&self) -> u32 {
+    pub fn number(&self) -> u32
+        ensures { result ≡ self.now.number }
+    {
         self.number
     }
 
@@ -139,7 +145,7 @@ impl<'a, T: PutEnd, U: TakeEnd> Group<'a, T, U> {
 
     /// The end at which the node at a place puts words into a link, given up.
     pub fn lift_put(&mut self, place: usize, link: u32) -> T
-        requires { (own : SeenOwn) × (slice_get self.old.ends place ≡ Some own) × HasPut own link }
+        requires { (own : SeenOwn) × (slice_get self.old.ends place ≡ Some own) × HasPutEnd own link }
         ensures end { (own : SeenOwn) → slice_get self.old.ends place ≡ Some own
             → GivesPut own link (T.seen result) }
         ensures rest { (own : SeenOwn) → slice_get self.old.ends place ≡ Some own
@@ -154,7 +160,7 @@ impl<'a, T: PutEnd, U: TakeEnd> Group<'a, T, U> {
 
     /// The end at which the node at a place takes words from a link, given up.
     pub fn lift_take(&mut self, place: usize, link: u32) -> U
-        requires { (own : SeenOwn) × (slice_get self.old.ends place ≡ Some own) × HasTake own link }
+        requires { (own : SeenOwn) × (slice_get self.old.ends place ≡ Some own) × HasTakeEnd own link }
         ensures end { (own : SeenOwn) → slice_get self.old.ends place ≡ Some own
             → GivesTake own link (U.seen result) }
         ensures rest { (own : SeenOwn) → slice_get self.old.ends place ≡ Some own

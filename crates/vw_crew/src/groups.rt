@@ -4,8 +4,8 @@ ghost use Rattle.std.specs.Bool.{OnFalse, OnTrue};
 ghost use Rattle.vw_prog.specs.Actions.{ArePrograms};
 ghost use Rattle.vw_prog.specs.Scripts.{planned_of};
 ghost use Rattle.vw_node.specs.declared.node.Node.{Node};
-ghost use Rattle.vw_crew.specs.Ends.{FitsPut, FitsTake, GivesPut, GivesTake, HasPut, HasTake, SeenOwn};
-ghost use Rattle.vw_crew.specs.Groups.{AllAtWork, AllStay, Changes, IsFirstGroup, SeenGroup, node_at, own_at};
+ghost use Rattle.vw_crew.specs.Ends.{FitsPut, FitsTake, GivesPut, GivesTake, HasPutEnd, HasTakeEnd, SeenOwn};
+ghost use Rattle.vw_crew.specs.Groups.{AllAtWork, AllStay, Changes, IsFirstGroup, SeenGroup, group_node, own_at};
 
 use crate::group::Group;
 use std::alloc::{AllocError, Global};
@@ -64,7 +64,7 @@ pub fn place_take<T: PutEnd, U: TakeEnd>(
 
 /// The end at which a node puts words into a link, given up.
 pub fn lift_put<T: PutEnd, U: TakeEnd>(groups: &mut [Group<'_, T, U>], node: u32, link: u32) -> T
-    requires { (own : SeenOwn) × (own_at groups.old node ≡ Some own) × HasPut own link }
+    requires { (own : SeenOwn) × (own_at groups.old node ≡ Some own) × HasPutEnd own link }
     ensures end { (own : SeenOwn) → own_at groups.old node ≡ Some own
         → GivesPut own link (T.seen result) }
     ensures rest { (own : SeenOwn) → own_at groups.old node ≡ Some own
@@ -77,7 +77,7 @@ pub fn lift_put<T: PutEnd, U: TakeEnd>(groups: &mut [Group<'_, T, U>], node: u32
 
 /// The end at which a node takes words from a link, given up.
 pub fn lift_take<T: PutEnd, U: TakeEnd>(groups: &mut [Group<'_, T, U>], node: u32, link: u32) -> U
-    requires { (own : SeenOwn) × (own_at groups.old node ≡ Some own) × HasTake own link }
+    requires { (own : SeenOwn) × (own_at groups.old node ≡ Some own) × HasTakeEnd own link }
     ensures end { (own : SeenOwn) → own_at groups.old node ≡ Some own
         → GivesTake own link (U.seen result) }
     ensures rest { (own : SeenOwn) → own_at groups.old node ≡ Some own
@@ -101,8 +101,8 @@ pub fn turn<T: PutEnd, U: TakeEnd>(groups: &mut [Group<'_, T, U>], number: usize
 
 /// The node with a number.
 pub fn node<'s, 'a, T: PutEnd, U: TakeEnd>(groups: &'s [Group<'a, T, U>], node: u32) -> &'s Node<'a>
-    requires { (there : Node) × (node_at groups.now node ≡ Some there) }
-    ensures { node_at groups.now node ≡ Some result.now }
+    requires { (there : Node) × (group_node groups.now node ≡ Some there) }
+    ensures { group_node groups.now node ≡ Some result.now }
 {
     let count = groups.len();
     groups[node as usize % count].node(node as usize / count)
@@ -110,8 +110,8 @@ pub fn node<'s, 'a, T: PutEnd, U: TakeEnd>(groups: &'s [Group<'a, T, U>], node: 
 
 /// Node 0, given up with all others.
 pub fn into_host<'a, T: PutEnd, U: TakeEnd>(mut groups: Vec<Group<'a, T, U>>) -> Node<'a>
-    requires { (there : Node) × (node_at groups.items 0 ≡ Some there) }
-    ensures { node_at groups.entry.items 0 ≡ Some result }
+    requires { (there : Node) × (group_node groups.items 0 ≡ Some there) }
+    ensures { group_node groups.entry.items 0 ≡ Some result }
 {
     groups.swap_remove(0).into_first()
 }

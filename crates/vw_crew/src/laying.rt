@@ -1,6 +1,7 @@
 //! The links of a crew are laid and lifted.
 ghost use Rattle.std.specs.Prelude.{◌≡◌, ◌≤◌, ℕ, length, IfOk};
 ghost use Rattle.std.specs.Option.{is_some};
+ghost use Rattle.vw_crew.specs.Groups.{group_numbers};
 ghost use Rattle.vw_crew.specs.Laying.{CanLift, HasSameNodes, IsBare, IsCrew, carried_on};
 
 use crate::group::Group;
@@ -22,6 +23,7 @@ pub fn lift_all<F: Fabric>(
         → CanLift job.now (F.carried fabric.old) count moved groups.old
         → F.carried fabric.new ≡ carried_on job.now count moved (F.carried fabric.old) }
     ensures nodes { HasSameNodes groups.old groups.new }
+    ensures numbers { group_numbers groups.new ≡ group_numbers groups.old }
 {
     let links = job.checked().board().links();
     for number in 0..count {
@@ -42,6 +44,7 @@ pub fn lay_all<F: Fabric>(
 ) -> Result<(), AllocError>
     requires { IsBare job.now groups.old }
     ensures same { F.carried fabric.new ≡ F.carried fabric.old }
+    ensures numbers { group_numbers groups.new ≡ group_numbers groups.old }
     ensures ready { IfOk result (λ _. IsCrew job.now (is_some (F.carried fabric.old)) groups.new) }
 {
     let links = job.checked().board().links();

@@ -19,7 +19,7 @@ use Rattle.vw_prog.specs.Actions.{ArePrograms, SeenPrograms, action_of, actions}
 use Rattle.vw_prog.specs.Scripts.{planned_of, script, script_before, state_at, value_at, word_at}
 use Rattle.vw_prog.specs.Timetable.{entries_at, is_evaluating, is_sending, is_sent, passes, timetable}
 use Rattle.vw_crew_tests.specs.declared.scripts.Slot.{Slot}
-use Rattle.vw_crew_tests.specs.Slots.{slot_of, slots, word_in}
+use Rattle.vw_crew_tests.specs.Slots.{entry_slot, slots, word_in}
 
 not_both : (entry : Entry) → is_evaluating entry ≡ true → is_sending entry ≡ true → ⊥
 not_both entry evaluates sends =
@@ -28,35 +28,35 @@ not_both entry evaluates sends =
     omega (arith, one, other)
 
 module _ (number inputs : ℕ) where
-  one_slot : (entry : Entry) (rest : List Action) (more : List Entry) → slots number rest ≡ map slot_of (filter (is_sent number) more)
-      → slots number (action_of inputs entry ∷ rest) ≡ map slot_of (filter (is_sent number) (entry ∷ more))
+  one_slot : (entry : Entry) (rest : List Action) (more : List Entry) → slots number rest ≡ map entry_slot (filter (is_sent number) more)
+      → slots number (action_of inputs entry ∷ rest) ≡ map entry_slot (filter (is_sent number) (entry ∷ more))
   one_slot entry rest more so_far = by (is_evaluating entry) (is_sending entry) (not_both entry) where
-    own : (same : Bool) → (if same then slot_of entry ∷ slots number rest else slots number rest) ≡ map slot_of (if same then entry ∷ filter (is_sent number) more else filter (is_sent number) more)
-    own true = ap (λ (list : List Slot). slot_of entry ∷ list) so_far
+    own : (same : Bool) → (if same then entry_slot entry ∷ slots number rest else slots number rest) ≡ map entry_slot (if same then entry ∷ filter (is_sent number) more else filter (is_sent number) more)
+    own true = ap (λ (list : List Slot). entry_slot entry ∷ list) so_far
     own false = so_far
 
     by : (evaluates sends : Bool) → (evaluates ≡ true → sends ≡ true → ⊥)
         → slots number ((if evaluates then Evaluate (entry.net - inputs) else (if sends then Send entry.link entry.place entry.net else Take entry.link entry.place entry.net)) ∷ rest)
-        ≡ map slot_of (if sends && eqb entry.link number then entry ∷ filter (is_sent number) more else filter (is_sent number) more)
+        ≡ map entry_slot (if sends && eqb entry.link number then entry ∷ filter (is_sent number) more else filter (is_sent number) more)
     by true true apart = absurd (apart refl refl)
     by true false apart = so_far
     by false true apart = own (eqb entry.link number)
     by false false apart = so_far
 
-  slots_of_entries : (entries : List Entry) → slots number (map (action_of inputs) entries ++ Step ∷ []) ≡ map slot_of (filter (is_sent number) entries)
+  slots_of_entries : (entries : List Entry) → slots number (map (action_of inputs) entries ++ Step ∷ []) ≡ map entry_slot (filter (is_sent number) entries)
   slots_of_entries [] = refl
   slots_of_entries (entry ∷ entries) = one_slot entry (map (action_of inputs) entries ++ Step ∷ []) entries (slots_of_entries entries)
 
 -- what a program sends over a link is what passes over it
-pub slots_are : (planned : PlannedBoard) (number : ℕ) (link : Link) → filter (is_sent number) (entries_at link.from (timetable planned)) ≡ passes planned number → slots number (actions planned link.from) ≡ map slot_of (passes planned number)
-slots_are planned number link law = slots_of_entries number planned.ordered.flat.inputs (entries_at link.from (timetable planned)) ∙ ap (map slot_of) law
+pub slots_are : (planned : PlannedBoard) (number : ℕ) (link : Link) → filter (is_sent number) (entries_at link.from (timetable planned)) ≡ passes planned number → slots number (actions planned link.from) ≡ map entry_slot (passes planned number)
+slots_are planned number link law = slots_of_entries number planned.ordered.flat.inputs (entries_at link.from (timetable planned)) ∙ ap (map entry_slot) law
 
 -- the words of a clock, where the nets have the values of that clock
-pub words_are : (job : Job) (clock nets : ℕ) (values : List Bool) → ((net : ℕ) → net < nets → slice_index_or values net false ≡ value_at job clock net) → (entries : List Entry) → All (λ slot. slot.net < nets) (map slot_of entries)
-    → map (word_in (job.first + clock) values) (map slot_of entries) ≡ map (word_at job clock) entries
+pub words_are : (job : Job) (clock nets : ℕ) (values : List Bool) → ((net : ℕ) → net < nets → slice_index_or values net false ≡ value_at job clock net) → (entries : List Entry) → All (λ slot. slot.net < nets) (map entry_slot entries)
+    → map (word_in (job.first + clock) values) (map entry_slot entries) ≡ map (word_at job clock) entries
 words_are job clock nets values right [] all = refl
 words_are job clock nets values right (entry ∷ entries) all =
-    let here : word_in (job.first + clock) values (slot_of entry) ≡ word_at job clock entry = ap (λ (bit : Bool). record { clock = job.first + clock; net = entry.net; pin = entry.place; bit = bit }) (right entry.net (all 0 (slot_of entry) (omega arith))) in
+    let here : word_in (job.first + clock) values (entry_slot entry) ≡ word_at job clock entry = ap (λ (bit : Bool). record { clock = job.first + clock; net = entry.net; pin = entry.place; bit = bit }) (right entry.net (all 0 (entry_slot entry) (omega arith))) in
     λ i. here i ∷ words_are job clock nets values right entries (λ place slot below. all (suc place) slot (omega (arith, below))) i
 
 -- the state after one more clock
@@ -89,7 +89,7 @@ state_is job clock flat row state below flats rows states =
     (λ i. next_state (flats i) (rows i) (states i)) ∙ sym (state_more job.checked.ordered.flat job.start job.rows clock below) ∙ ap (state_at job) one
 
 -- the words before the next clock
-pub more_words : (job : Job) (link clock nets : ℕ) (listed : List Slot) (values : List Bool) (old new : List Word) → listed ≡ map slot_of (passes (planned_of job) link) → All (λ slot. slot.net < nets) listed
+pub more_words : (job : Job) (link clock nets : ℕ) (listed : List Slot) (values : List Bool) (old new : List Word) → listed ≡ map entry_slot (passes (planned_of job) link) → All (λ slot. slot.net < nets) listed
     → ((net : ℕ) → net < nets → slice_index_or values net false ≡ value_at job clock net) → old ≡ script_before job link clock → new ≡ old ++ map (word_in (job.first + clock) values) listed → new ≡ script_before job link (clock + 1)
 more_words job link clock nets listed values old new same all right before added =
     let one : suc clock ≡ clock + 1 = omega arith in
@@ -107,7 +107,7 @@ all_words job link clock words rows same most least is =
 pub script_slots : (job : Job) (number from : ℕ) (listed : List Link) (none : Link) (programs : SeenPrograms) (list : List Action) (found : List Slot) → listed ≡ job.checked.board.links → number < length job.checked.board.links → from ≡ (get_or listed number none).from
     → ArePrograms (planned_of job) programs → list ≡ slice_index_or programs.lists from [] → found ≡ slots number list
     → ((planned : PlannedBoard) (one : ℕ) (link : Link) → IsSound planned → slice_get planned.board.links one ≡ Some link → filter (is_sent one) (entries_at link.from (timetable planned)) ≡ passes planned one)
-    → found ≡ map slot_of (passes (planned_of job) number)
+    → found ≡ map entry_slot (passes (planned_of job) number)
 script_slots job number from listed none programs list found same below from_is are list_is found_is law =
     let link : Link = get_or job.checked.board.links number none in
     let there : slice_get job.checked.board.links number ≡ Some link = slice_get-get_or job.checked.board.links number none below in

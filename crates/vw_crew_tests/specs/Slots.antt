@@ -7,8 +7,8 @@ use Rattle.vw_prog.specs.declared.word.Word.{Word}
 use Rattle.vw_crew_tests.specs.declared.scripts.Slot.{Slot}
 
 -- the net and the pin of an entry
-abbrev pub slot_of : Entry → Slot
-slot_of entry = record { net = entry.net; pin = entry.place }
+abbrev pub entry_slot : Entry → Slot
+entry_slot entry = record { net = entry.net; pin = entry.place }
 
 -- those that a program sends over a link
 abbrev pub slots : ℕ → List Action → List Slot

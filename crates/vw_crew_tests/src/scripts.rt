@@ -4,7 +4,7 @@ ghost use Rattle.std.specs.Bool.{OnTrue};
 ghost use Rattle.std.specs.List.{All};
 ghost use Rattle.vw_prog.specs.Scripts.{planned_of, script};
 ghost use Rattle.vw_prog.specs.Timetable.{passes};
-ghost use Rattle.vw_crew_tests.specs.Slots.{slot_of, slots, word_in};
+ghost use Rattle.vw_crew_tests.specs.Slots.{entry_slot, slots, word_in};
 
 use std::alloc::{AllocError, Global};
 use std::test::Fail;
@@ -81,7 +81,7 @@ fn add_words(
 
 /// The words of all clocks over a link, of which these are the slots.
 fn words_of(alloc: Global, job: &Job, link: u32, slots: &[Slot]) -> Result<Vec<Word>, AllocError>
-    requires slots { slots.now ≡ map slot_of (passes (planned_of job.now) link) }
+    requires slots { slots.now ≡ map entry_slot (passes (planned_of job.now) link) }
     requires below { All (λ slot. slot.net < job.now.checked.ordered.flat.inputs
         + length job.now.checked.ordered.flat.cells) slots.now }
     ensures { IfOk result (λ words. words.items ≡ script job.now link) }
@@ -91,8 +91,8 @@ fn words_of(alloc: Global, job: &Job, link: u32, slots: &[Slot]) -> Result<Vec<W
     let mut state = Bits::of(job.start.as_slice().to_vec(alloc)?);
     let mut values = Bits::of(vec![in alloc; false; nets]?);
     let mut words = Vec::new(alloc);
-    for (clock, row) in job.rows.as_slice().iter().enumerate() {
-        step(ordered, row, &mut state, &mut values);
+    for clock in 0..job.rows.len() {
+        step(ordered, job.rows.row(clock), &mut state, &mut values);
         add_words(job.first + clock as u64, slots, &values, &mut words)?;
     }
     Ok(words)

@@ -4,7 +4,7 @@ use Rattle.std.specs.Option.{option_or}
 use Rattle.std.proofs.lemmas.Option.{none-some, same_Some}
 use Rattle.vw_design.specs.declared.design.Design.{Design}
 use Rattle.vw_design.specs.Paths.{Word, Net}
-use Rattle.vw_design.specs.ModelFaults.{NameAt, NameOf, unknown_model, IsModelCircle, unknown_formal, unbound_input, both_ways}
+use Rattle.vw_design.specs.ModelFaults.{NameAt, NameOf, unknown_model, IsModelCircle, unknown_formal, unbound_input, port_both_ways}
 use Rattle.vw_design.specs.Limits.{Counted, too_big}
 use Rattle.vw_design.specs.NetFaults.{Unlike, Edged, undriven, two_drivers, gated_clock, several_clocks, several_edges, clock_as_data}
 use Rattle.vw_design.specs.Accepted.{IsAccepted, Fault, model_unknown, recursive, formal_unknown, input_unbound, output_both_ways, over_limit, net_undriven, driven_twice, clock_gated, clocks_differ, edges_differ, clock_read, further_fault, IsFurtherFault, IsFaultOf}
@@ -132,7 +132,7 @@ first_further a b c d e f g h i j fault is =
 module _ (design : Design) where
   no_further : IsAccepted design → further_fault design ≡ None
   no_further accepted =
-      no_first (unknown_formal design) (unbound_input design) (both_ways design) (too_big design) (undriven design) (two_drivers design) (gated_clock design) (several_clocks design)
+      no_first (unknown_formal design) (unbound_input design) (port_both_ways design) (too_big design) (undriven design) (two_drivers design) (gated_clock design) (several_clocks design)
       (several_edges design) (clock_as_data design)
       (record {
         a_none = accepted.models.formals_known;
@@ -194,7 +194,7 @@ module _ (design : Design) where
   pub fine_accepted : ((fault : Fault) → IsFaultOf design fault → ⊥) → IsAccepted design
   fine_accepted fine =
       let none = first_none (further_fault design) refl in
-      let parts = none_first (unknown_formal design) (unbound_input design) (both_ways design) (too_big design) (undriven design) (two_drivers design) (gated_clock design) (several_clocks design)
+      let parts = none_first (unknown_formal design) (unbound_input design) (port_both_ways design) (too_big design) (undriven design) (two_drivers design) (gated_clock design) (several_clocks design)
       (several_edges design) (clock_as_data design) none in
       record {
         models = record {
@@ -223,7 +223,7 @@ module _ (design : Design) where
       first_none : (found : Option Fault) → further_fault design ≡ found → further_fault design ≡ None
       first_none None is = is
       first_none (Some fault) is =
-          let further = first_further (unknown_formal design) (unbound_input design) (both_ways design) (too_big design) (undriven design) (two_drivers design) (gated_clock design) (several_clocks design)
+          let further = first_further (unknown_formal design) (unbound_input design) (port_both_ways design) (too_big design) (undriven design) (two_drivers design) (gated_clock design) (several_clocks design)
           (several_edges design) (clock_as_data design) fault is in
           absurd (fine fault (fault_is fault further (record { models_known = known (unknown_model design) refl; no_circle = no_circle; first = is })))
 

@@ -13,7 +13,7 @@ use Rattle.vw_net.specs.FirstFound.{first_found}
 use Rattle.vw_net.specs.Lists.{greatest}
 use Rattle.vw_design.specs.Paths.{Word, Path, model_placed, model_at, is_port}
 use Rattle.vw_design.specs.Preorder.{instances}
-use Rattle.vw_design.specs.ModelFaults.{NameOf, has_model_name, is_reached, reached, by_placing, first_placing, at_model, both_ways}
+use Rattle.vw_design.specs.ModelFaults.{NameOf, has_model_name, is_reached, reached, by_placing, first_placing, at_model, port_both_ways}
 use Rattle.vw_design.specs.Limits.{depth_at, greatest_depth}
 use Rattle.vw_design.specs.Accepted.{HasNoModelFault}
 use Rattle.vw_design.proofs.ListElements.{Has, Has-map, Has-at, Has-filter, any-Has, from-find, none-find, none-found}
@@ -80,7 +80,7 @@ module _ (design : Design) where
     nothing None is = refl
     nothing (Some o) is = absurd (none-some (of_model name o) (sym is))
 
-  pub one_way : IsShallow design 64 → both_ways design ≡ None → IsOneWay design
+  pub one_way : IsShallow design 64 → port_both_ways design ≡ None → IsOneWay design
   one_way is_shallow none = record { one_way = by } where
     by : (place : ℕ) (path : Path) (model : Model) (name : Word) → model_at design (place ∷ path) ≡ Some model → has_name model.outputs name ≡ true → is_port model name ≡ false
     by place path model name stands has =

@@ -4,7 +4,7 @@ use Rattle.std.specs.Prelude.{◌≡◌, ℕ, List, Option, Some, None, option_m
 use Rattle.std.specs.Option.{option_or}
 use Rattle.vw_design.specs.declared.design.Design.{Design}
 use Rattle.vw_design.specs.Paths.{Word, Net}
-use Rattle.vw_design.specs.ModelFaults.{NameAt, NameOf, unknown_model, IsModelCircle, unknown_formal, unbound_input, both_ways}
+use Rattle.vw_design.specs.ModelFaults.{NameAt, NameOf, unknown_model, IsModelCircle, unknown_formal, unbound_input, port_both_ways}
 use Rattle.vw_design.specs.Limits.{IsSmall, Counted, too_big}
 use Rattle.vw_design.specs.NetFaults.{Unlike, Edged, undriven, two_drivers, gated_clock, several_clocks, several_edges, clock_as_data}
 
@@ -14,7 +14,7 @@ pub record HasNoModelFault (design : Design) : Type 0 where
   pub no_circle : (names : List Word) → IsModelCircle design names → ⊥
   pub formals_known : unknown_formal design ≡ None
   pub inputs_bound : unbound_input design ≡ None
-  pub one_way : both_ways design ≡ None
+  pub one_way : port_both_ways design ≡ None
   pub small : IsSmall design
 
 -- none of the faults is there
@@ -47,7 +47,7 @@ abbrev pub fault_of_models : Design → Option Fault
 fault_of_models design =
     option_or (option_map (λ formal. formal_unknown formal) (unknown_formal design))
     (option_or (option_map (λ formal. input_unbound formal) (unbound_input design))
-    (option_or (option_map (λ output. output_both_ways output) (both_ways design)) (option_map (λ counted. over_limit counted) (too_big design))))
+    (option_or (option_map (λ output. output_both_ways output) (port_both_ways design)) (option_map (λ counted. over_limit counted) (too_big design))))
 
 abbrev pub fault_of_nets : Design → Option Fault
 fault_of_nets design =

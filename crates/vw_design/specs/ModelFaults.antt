@@ -96,6 +96,6 @@ pub record NameOf : Type 0 where
   pub model : Word
   pub name : Word
 
-abbrev pub both_ways : Design → Option NameOf
-both_ways design = first_placing design (λ line name binds.
+abbrev pub port_both_ways : Design → Option NameOf
+port_both_ways design = first_placing design (λ line name binds.
     option_map (λ output. record { model = name; name = output }) (at_model design (λ model. find (is_port model) model.outputs) name))

@@ -19,7 +19,7 @@ use Rattle.vw_instances.specs.declared.sizes.Before.{Before}
 use Rattle.vw_drivers.specs.declared.model_names.ModelNames.{ModelNames}
 use Rattle.vw_drivers.specs.declared.model_names.PlacedNames.{PlacedNames}
 use Rattle.vw_drivers.specs.declared.tables.Tables.{Tables}
-use Rattle.vw_drivers.specs.Tables.{AreTables}
+use Rattle.vw_drivers.specs.Tables.{AreDesignTables}
 use Rattle.vw_drivers.specs.Steps.FoundDrivers.{before_of, placed_of, child_of}
 use Rattle.vw_drivers.proofs.InstanceTables.{HasInstance, instance_of, no_root, child_is}
 
@@ -34,7 +34,7 @@ path_of_place list path place found =
     let at = at-place (λ (other : Path). bytes_eq other path) list place found in
     at.1 ∙ ap (λ (p : Path). Some p) (same_name at.0 path at.2)
 
-module _ (design : Design) (faultless : HasNoModelFault design) (tables : Tables) (are : AreTables design tables) (number : ℕ) (path : Path) (listed : slice_get (instances design) number ≡ Some path) (has : HasInstance design tables number path) where
+module _ (design : Design) (faultless : HasNoModelFault design) (tables : Tables) (are : AreDesignTables design tables) (number : ℕ) (path : Path) (listed : slice_get (instances design) number ≡ Some path) (has : HasInstance design tables number path) where
   -- where no item places an instance, the tables lead to none, and none is listed
   none_led : (place : ℕ) → placing_at has.is.model.items place ≡ None → child_of tables number has.entry place ≡ None
   none_led zero none = refl
@@ -68,7 +68,7 @@ module _ (design : Design) (faultless : HasNoModelFault design) (tables : Tables
         let child = child_is design faultless tables are number path listed has before placing at in
         child.is ∙ sym (instance_once design child.child (suc before ∷ path) child.child_listed)
 
-module _ (design : Design) (faultless : HasNoModelFault design) (tables : Tables) (are : AreTables design tables) (number : ℕ) (path : Path) (listed : slice_get (instances design) number ≡ Some path) where
+module _ (design : Design) (faultless : HasNoModelFault design) (tables : Tables) (are : AreDesignTables design tables) (number : ℕ) (path : Path) (listed : slice_get (instances design) number ≡ Some path) where
   -- by the entry that is read
   pub has_entry : slice_get tables.instances number ≡ None → ⊥
   has_entry none = let has = instance_of design faultless tables are number path listed in none-some has.entry (sym none ∙ has.at)

@@ -10,7 +10,7 @@ use Rattle.vw_design.specs.Claims.{Numbered, and_behind, numbered}
 use Rattle.vw_design.specs.NetFaults.{claimed_by, claimed_before}
 use Rattle.vw_drivers.specs.Firsts.{First}
 use Rattle.vw_drivers.specs.Claimed.{each_once}
-use Rattle.vw_drivers.specs.Steps.GatheredClaims.{has_claim, with_first, with_firsts, port_first, item_made, with_items, ports_only}
+use Rattle.vw_drivers.specs.Steps.GatheredClaims.{has_claim, with_first, with_firsts, port_first, item_made, with_item_claims, ports_only}
 use Rattle.vw_drivers.proofs.ClaimLookups.{claimed_names, has_first_more, with_firsts_append}
 use Rattle.vw_drivers.proofs.FirstClaims.{items_firsts}
 use Rattle.vw_drivers.proofs.ModelClaimsAgain.{made_names, ports_names}
@@ -66,7 +66,7 @@ items_names design number before (item ∷ items) =
     ∙ ap₂ (λ (one other : List Word). one ++ other) (made_names design number before item) (items_names design (suc number) (and_behind item before) items)
 
 pub gathered_names : (design : Design) (model : Model)
-    → claimed_names (with_items design 0 0 model.items (ports_only model)).firsts ≡ each_once (claimed_before design (Some model) (length model.items))
+    → claimed_names (with_item_claims design 0 0 model.items (ports_only model)).firsts ≡ each_once (claimed_before design (Some model) (length model.items))
 gathered_names design model =
     let ports = map port_first (model.inputs ++ model.clocks) in
     let made = flat_map (λ (entry : Numbered). item_made design entry.number entry.before entry.item) (numbered 0 0 model.items) in

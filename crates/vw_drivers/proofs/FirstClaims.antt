@@ -18,7 +18,7 @@ use Rattle.vw_drivers.specs.declared.claim.Claim.{Claim}
 use Rattle.vw_drivers.specs.declared.claim.Claim.TheVariants.{Port, Driven, Bound}
 use Rattle.vw_drivers.specs.declared.model_claims.ModelClaims.{ModelClaims}
 use Rattle.vw_drivers.specs.Firsts.{First, claim_named}
-use Rattle.vw_drivers.specs.Steps.GatheredClaims.{with_firsts, port_first, binds_made, item_made, with_claim, with_all, with_items, ports_only}
+use Rattle.vw_drivers.specs.Steps.GatheredClaims.{with_firsts, port_first, binds_made, item_made, with_claim, with_first_claims, with_item_claims, ports_only}
 use Rattle.vw_drivers.specs.Claimed.{meant}
 use Rattle.vw_drivers.proofs.ClaimLookups.{look, named_look, look_append, look_firsts, with_firsts_append}
 
@@ -106,30 +106,30 @@ module _ (items : List Item) where
       ∙ ap (option_map (λ (claim : NamedClaim). Some claim)) (sym (first_append named all_named))
 
 -- what the gathered claims are made of
-pub all_firsts : (item : ℕ) (more : List First) (claims : ModelClaims) → (with_all item more claims).firsts ≡ with_firsts claims.firsts more
+pub all_firsts : (item : ℕ) (more : List First) (claims : ModelClaims) → (with_first_claims item more claims).firsts ≡ with_firsts claims.firsts more
 all_firsts item [] claims = refl
 all_firsts item (further ∷ more) claims = all_firsts item more (with_claim item further.name further.claim claims)
 
 pub items_firsts : (design : Design) (number before : ℕ) (items : List Item) (claims : ModelClaims)
-    → (with_items design number before items claims).firsts
+    → (with_item_claims design number before items claims).firsts
     ≡ with_firsts claims.firsts (flat_map (λ entry. item_made design entry.number entry.before entry.item) (numbered number before items))
 items_firsts design number before [] claims = refl
 items_firsts design number before (item ∷ items) claims =
     let made = item_made design number before item in
     let rest = flat_map (λ (entry : Numbered). item_made design entry.number entry.before entry.item) (numbered (suc number) (and_behind item before) items) in
-    items_firsts design (suc number) (and_behind item before) items (with_all number made claims)
+    items_firsts design (suc number) (and_behind item before) items (with_first_claims number made claims)
     ∙ ap (λ (firsts : List First). with_firsts firsts rest) (all_firsts number made claims)
     ∙ sym (with_firsts_append claims.firsts made rest)
 
 -- the first claims of a model
 pub gathered_firsts : (design : Design) (model : Model) (name : Word)
-    → option_map (meant model.items) (claim_named (with_items design 0 0 model.items (ports_only model)).firsts name)
+    → option_map (meant model.items) (claim_named (with_item_claims design 0 0 model.items (ports_only model)).firsts name)
     ≡ option_map (λ claim. Some claim) (first_claim design (Some model) name)
 gathered_firsts design model name =
     let ports = map port_first (model.inputs ++ model.clocks) in
     let made = flat_map (λ (entry : Numbered). item_made design entry.number entry.before entry.item) (numbered 0 0 model.items) in
     let named = flat_map (λ (entry : Numbered). item_claims design name entry.number entry.before entry.item) (numbered 0 0 model.items) in
-    let whole = (with_items design 0 0 model.items (ports_only model)).firsts in
+    let whole = (with_item_claims design 0 0 model.items (ports_only model)).firsts in
     let found : look whole name ≡ option_or (look ports name) (look made name) =
     ap (λ (firsts : List First). look firsts name) (items_firsts design 0 0 model.items (ports_only model))
     ∙ look_firsts (with_firsts [] ports) made name

@@ -23,7 +23,7 @@ use Rattle.vw_instances.specs.declared.tables.ListedInstance.{ListedInstance}
 use Rattle.vw_drivers.specs.declared.model_names.PlacedNames.{PlacedNames}
 use Rattle.vw_drivers.specs.Names.{way_of}
 use Rattle.vw_drivers.specs.declared.tables.Tables.{Tables}
-use Rattle.vw_drivers.specs.Tables.{AreTables, instance_firsts}
+use Rattle.vw_drivers.specs.Tables.{AreDesignTables, instance_firsts}
 use Rattle.vw_drivers.specs.Steps.FoundDrivers.{placed_of, ways_of}
 use Rattle.vw_drivers.proofs.InstanceTables.{instance_of, placed_is}
 
@@ -49,7 +49,7 @@ pub record IsPlacing (design : Design) (tables : Tables) (number place : ℕ) (p
 abbrev name_at_line : ℕ → Word → NameAt
 name_at_line line name = record { line = line; name = name }
 
-module _ (design : Design) (faultless : HasNoModelFault design) (tables : Tables) (are : AreTables design tables) where
+module _ (design : Design) (faultless : HasNoModelFault design) (tables : Tables) (are : AreDesignTables design tables) where
   pub placing_of : (number place : ℕ) (path : Path) → slice_get (instances design) number ≡ Some (place ∷ path) → IsPlacing design tables number place path
   placing_of number place path listed =
       let here = instance_of design faultless tables are number (place ∷ path) listed in

@@ -27,7 +27,7 @@ use Rattle.vw_drivers.specs.declared.model_names.PlacedNames.{PlacedNames}
 use Rattle.vw_drivers.specs.Names.{firsts_of, IsPlacedNames}
 use Rattle.vw_drivers.specs.declared.source.Source.TheVariants.{Cell}
 use Rattle.vw_drivers.specs.declared.tables.Tables.{Tables}
-use Rattle.vw_drivers.specs.Tables.{AreTables, instance_firsts}
+use Rattle.vw_drivers.specs.Tables.{AreDesignTables, instance_firsts}
 use Rattle.vw_drivers.specs.Steps.FoundDrivers.{before_of, placed_of, cell_source, child_of}
 
 -- a place isn't 0
@@ -44,7 +44,7 @@ pub record HasInstance (design : Design) (tables : Tables) (number : ℕ) (path 
   pub firsts_are : firsts_of tables.claims (Some entry.model) ≡ claims.firsts
   pub own_firsts : instance_firsts tables number ≡ firsts_of tables.claims (Some entry.model)
 
-module _ (design : Design) (faultless : HasNoModelFault design) (tables : Tables) (are : AreTables design tables) where
+module _ (design : Design) (faultless : HasNoModelFault design) (tables : Tables) (are : AreDesignTables design tables) where
   pub instance_of : (number : ℕ) (path : Path) → slice_get (instances design) number ≡ Some path → HasInstance design tables number path
   instance_of number path listed =
       let found = are.placed.each number path listed in

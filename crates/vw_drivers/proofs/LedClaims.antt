@@ -26,7 +26,7 @@ use Rattle.vw_drivers.specs.Names.{firsts_of}
 use Rattle.vw_drivers.specs.declared.source.Source.TheVariants.{Port}
 use Rattle.vw_drivers.specs.declared.tables.Tables.{Tables}
 use Rattle.vw_drivers.specs.Sources.{source_of}
-use Rattle.vw_drivers.specs.Tables.{AreTables, root_firsts, instance_firsts}
+use Rattle.vw_drivers.specs.Tables.{AreDesignTables, root_firsts, instance_firsts}
 use Rattle.vw_drivers.specs.Drivers.{at_rows, driver_by_numbers, HasOutputs}
 use Rattle.vw_drivers.specs.Steps.FoundDrivers.{DriverRows, child_of, led_by, led_at, led}
 use Rattle.vw_drivers.proofs.InstanceTables.{HasInstance, instance_of, cell_is, child_is}
@@ -81,7 +81,7 @@ later_number : (listed : List Path) (number place : ℕ) (up path : Path) (entry
 later_number listed number place up [] entry is by zero_is = cc
 later_number listed number place up (at ∷ path) entry is by zero_is = omega (arith, by.2, zero_is)
 
-module _ (design : Design) (faultless : HasNoModelFault design) (tables : Tables) (are : AreTables design tables) where
+module _ (design : Design) (faultless : HasNoModelFault design) (tables : Tables) (are : AreDesignTables design tables) where
   -- one turn from a net
   pub turned : (path : Path) (name : Word) (claim : Option NamedClaim) → first_claim design (model_at design path) name ≡ claim
       → driver design path name ≡ follow_turn (driver design) (turn_by design path name claim)

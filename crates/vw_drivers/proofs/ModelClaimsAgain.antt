@@ -19,7 +19,7 @@ use Rattle.vw_drivers.specs.declared.claim.RepeatedClaim.{RepeatedClaim}
 use Rattle.vw_drivers.specs.declared.claim.Claim.TheVariants.{Bound}
 use Rattle.vw_drivers.specs.declared.model_claims.ModelClaims.{ModelClaims}
 use Rattle.vw_drivers.specs.Firsts.{First}
-use Rattle.vw_drivers.specs.Steps.GatheredClaims.{has_claim, port_first, binds_made, item_made, with_claim, with_all, with_items, ports_only}
+use Rattle.vw_drivers.specs.Steps.GatheredClaims.{has_claim, port_first, binds_made, item_made, with_claim, with_first_claims, with_item_claims, ports_only}
 use Rattle.vw_drivers.specs.Claimed.{IsRepeatedClaim}
 use Rattle.vw_drivers.proofs.FirstClaims.{all_firsts}
 use Rattle.vw_drivers.proofs.ClaimLookups.{claimed_names, has_first_more, has_firsts_more}
@@ -48,7 +48,7 @@ HaveSameNames names firsts = (name : Word) → has_name names name ≡ has_claim
 
 -- what an item claims again, where nothing was claimed again before
 all_again : (item : ℕ) (more : List First) (claims : ModelClaims) (before : List Word) → HaveSameNames before claims.firsts
-    → (with_all item more claims).again ≡ option_or claims.again (option_map (again_of item) (first_again before (claimed_names more)))
+    → (with_first_claims item more claims).again ≡ option_or claims.again (option_map (again_of item) (first_again before (claimed_names more)))
 all_again item [] claims before knows = sym (or_nothing claims.again)
 all_again item (further ∷ more) claims before knows =
     let next = with_claim item further.name further.claim claims in
@@ -65,7 +65,7 @@ all_again item (further ∷ more) claims before knows =
     by false true same = cc
     by false false same = refl
 
-all_known : (item : ℕ) (more : List First) (claims : ModelClaims) (before : List Word) → HaveSameNames before claims.firsts → HaveSameNames (before ++ claimed_names more) (with_all item more claims).firsts
+all_known : (item : ℕ) (more : List First) (claims : ModelClaims) (before : List Word) → HaveSameNames before claims.firsts → HaveSameNames (before ++ claimed_names more) (with_first_claims item more claims).firsts
 all_known item more claims before knows = λ name.
     list_any-append (λ (other : Word). bytes_eq other name) before (claimed_names more)
     ∙ ap (λ (b : Bool). b || has_name (claimed_names more) name) (knows name)
@@ -79,15 +79,15 @@ again_from design number before (item ∷ items) =
     option_or (option_map (again_of number) (first_again before (claimed_by design item))) (again_from design (suc number) (before ++ claimed_by design item) items)
 
 items_again : (design : Design) (number places : ℕ) (items : List Item) (claims : ModelClaims) (before : List Word) → HaveSameNames before claims.firsts
-    → (with_items design number places items claims).again ≡ option_or claims.again (again_from design number before items)
+    → (with_item_claims design number places items claims).again ≡ option_or claims.again (again_from design number before items)
 unfolding again_from
 items_again design number places [] claims before knows = sym (or_nothing claims.again)
 items_again design number places (item ∷ items) claims before knows =
     let made = item_made design number places item in
     let names = made_names design number places item in
-    let known : HaveSameNames (before ++ claimed_by design item) (with_all number made claims).firsts = λ name.
+    let known : HaveSameNames (before ++ claimed_by design item) (with_first_claims number made claims).firsts = λ name.
     ap (λ (list : List Word). has_name (before ++ list) name) (sym names) ∙ all_known number made claims before knows name in
-    items_again design (suc number) (and_behind item places) items (with_all number made claims) (before ++ claimed_by design item) known
+    items_again design (suc number) (and_behind item places) items (with_first_claims number made claims) (before ++ claimed_by design item) known
     ∙ ap (λ (again : Option RepeatedClaim). option_or again (again_from design (suc number) (before ++ claimed_by design item) items))
     (all_again number made claims before knows ∙ ap (λ (list : List Word). option_or claims.again (option_map (again_of number) (first_again before list))) names)
     ∙ or_assoc claims.again (option_map (again_of number) (first_again before (claimed_by design item))) (again_from design (suc number) (before ++ claimed_by design item) items)
@@ -157,7 +157,7 @@ from_first design model (Some again) is =
       λ number item below at. is.3 number item (omega (arith, same, below)) at,
     )
 
-pub gathered_again : (design : Design) (model : Model) → IsRepeatedClaim design (Some model) (with_items design 0 0 model.items (ports_only model)).again
+pub gathered_again : (design : Design) (model : Model) → IsRepeatedClaim design (Some model) (with_item_claims design 0 0 model.items (ports_only model)).again
 gathered_again design model =
     let ports = model.inputs ++ model.clocks in
     let known : HaveSameNames ports (ports_only model).firsts = λ name.

@@ -19,7 +19,7 @@ use Rattle.vw_drivers.specs.declared.source.Source.{Source}
 use Rattle.vw_drivers.specs.declared.source.Source.TheVariants.{Port, Cell}
 use Rattle.vw_drivers.specs.declared.tables.Tables.{Tables}
 use Rattle.vw_drivers.specs.Sources.{source_of}
-use Rattle.vw_drivers.specs.Tables.{AreTables, root_firsts, instance_firsts}
+use Rattle.vw_drivers.specs.Tables.{AreDesignTables, root_firsts, instance_firsts}
 use Rattle.vw_drivers.specs.Drivers.{driver_by_numbers, IsSource, AreDrivers}
 use Rattle.vw_drivers.specs.Steps.FoundDrivers.{led}
 use Rattle.vw_drivers.proofs.LedClaims.{led_is}
@@ -32,7 +32,7 @@ numbered_claim firsts name claim is = by (number_named firsts name) refl is wher
   by None found none = absurd (none-some claim none)
   by (Some number) found some = (number, found)
 
-module _ (design : Design) (faultless : HasNoModelFault design) (tables : Tables) (are : AreTables design tables) where
+module _ (design : Design) (faultless : HasNoModelFault design) (tables : Tables) (are : AreDesignTables design tables) where
   -- a port of the root is claimed
   pub port_number : (name : Word) (root : Model) → model_at design [] ≡ Some root → is_port root name ≡ true → (number : ℕ) × (number_named (root_firsts tables) name ≡ Some number)
   port_number name root stands is =

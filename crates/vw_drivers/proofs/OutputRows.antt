@@ -18,7 +18,7 @@ use Rattle.vw_drivers.specs.declared.model_names.Way.TheVariants.{Output}
 use Rattle.vw_drivers.specs.Names.{way_by, way_of}
 use Rattle.vw_drivers.specs.declared.source.Source.{Source}
 use Rattle.vw_drivers.specs.declared.tables.Tables.{Tables}
-use Rattle.vw_drivers.specs.Tables.{AreTables, instance_firsts}
+use Rattle.vw_drivers.specs.Tables.{AreDesignTables, instance_firsts}
 use Rattle.vw_drivers.specs.Drivers.{at_row, at_rows, driver_by_numbers, HasOutputs}
 use Rattle.vw_drivers.specs.Steps.FoundDrivers.{DriverRows, ways_of, output_led, outputs_made}
 use Rattle.vw_drivers.proofs.WrittenRows.{row_set, row_not_set}
@@ -26,7 +26,7 @@ use Rattle.vw_drivers.proofs.InstanceTables.{instance_of}
 use Rattle.vw_drivers.proofs.LedClaims.{some_first, named_first, led_is}
 use Rattle.vw_drivers.proofs.Formals.{placing_of}
 
-module _ (design : Design) (faultless : HasNoModelFault design) (tables : Tables) (are : AreTables design tables) (number : ℕ) (outputs : DriverRows)
+module _ (design : Design) (faultless : HasNoModelFault design) (tables : Tables) (are : AreDesignTables design tables) (number : ℕ) (outputs : DriverRows)
     (later : (other : ℕ) → number < other → HasOutputs design tables outputs other) where
   module _ (path : Path) (listed : slice_get (instances design) number ≡ Some path) (formal : Word) (no_port : first_claim design (model_at design path) formal ≡ Some port → ⊥) where
     -- the first claim is no port
@@ -66,7 +66,7 @@ module _ (design : Design) (faultless : HasNoModelFault design) (tables : Tables
       (number_named (instance_firsts tables number) bind.formal) (claim_named (instance_firsts tables number) bind.formal) (number_named (instance_firsts tables is.entry.parent) bind.actual) refl refl
 
 -- the row is written, and the later ones stay
-pub outputs_set : (design : Design) → HasNoModelFault design → (tables : Tables) → AreTables design tables → (number : ℕ) (rows : DriverRows)
+pub outputs_set : (design : Design) → HasNoModelFault design → (tables : Tables) → AreDesignTables design tables → (number : ℕ) (rows : DriverRows)
     → ((other : ℕ) → number < other → HasOutputs design tables rows other) → (entry : ListedInstance) → slice_get tables.instances number ≡ Some entry → number < length rows
     → (row : List (Option Source)) → row ≡ outputs_made tables rows number entry → (other : ℕ) → number ≤ other → HasOutputs design tables (slice_set rows number row) other
 outputs_set design faultless tables are number rows later entry at_entry within row row_is other least =

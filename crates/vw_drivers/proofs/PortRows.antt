@@ -24,7 +24,7 @@ use Rattle.vw_drivers.specs.Names.{way_by, way_of}
 use Rattle.vw_drivers.specs.declared.source.Source.{Source}
 use Rattle.vw_drivers.specs.declared.tables.Tables.{Tables}
 use Rattle.vw_drivers.specs.Sources.{source_of}
-use Rattle.vw_drivers.specs.Tables.{AreTables, root_firsts, instance_firsts}
+use Rattle.vw_drivers.specs.Tables.{AreDesignTables, root_firsts, instance_firsts}
 use Rattle.vw_drivers.specs.Drivers.{at_row, at_rows, driver_by_numbers, HasOutputs, HasPorts}
 use Rattle.vw_drivers.specs.Steps.FoundDrivers.{DriverRows, led, with_ways, ports_made}
 use Rattle.vw_drivers.proofs.WrittenRows.{found, row_before, row_last}
@@ -52,7 +52,7 @@ meant_port items (Some (claims.Bound place number)) is = by (bind_at items place
   by None means = absurd (none-some port means)
   by (Some bind) means = cc
 
-module _ (design : Design) (faultless : HasNoModelFault design) (tables : Tables) (are : AreTables design tables) (outputs ports : DriverRows)
+module _ (design : Design) (faultless : HasNoModelFault design) (tables : Tables) (are : AreDesignTables design tables) (outputs ports : DriverRows)
     (outputs_are : (other : ℕ) → HasOutputs design tables outputs other) where
   -- the rows of ports of an instance
   pub port_is : (number : ℕ) (path : Path) (listed : slice_get (instances design) number ≡ Some path) → HasPorts design tables ports number → (name : Word)

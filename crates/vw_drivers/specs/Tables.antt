@@ -17,7 +17,7 @@ pub record AreModelClaims (design : Design) (claims : List ModelClaims) : Type 0
       → (found : ModelClaims) × (slice_get claims number ≡ Some found) × AreClaims design (Some model) found
 
 -- the tables are those of the design
-pub record AreTables (design : Design) (tables : Tables) : Type 0 where
+pub record AreDesignTables (design : Design) (tables : Tables) : Type 0 where
   pub placed : ArePlaced design tables.instances
   pub before : AreBefore design tables.before
   pub claims : AreModelClaims design tables.claims

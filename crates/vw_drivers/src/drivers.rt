@@ -2,7 +2,7 @@
 ghost use Rattle.std.specs.Prelude.{◌≡◌, IfOk};
 ghost use Rattle.vw_design.specs.declared.design.Design.{Design};
 ghost use Rattle.vw_design.specs.Accepted.{HasNoModelFault};
-ghost use Rattle.vw_drivers.specs.Tables.{AreTables};
+ghost use Rattle.vw_drivers.specs.Tables.{AreDesignTables};
 ghost use Rattle.vw_drivers.specs.Drivers.{AreDrivers, IsSource};
 
 use crate::led::led_driver;
@@ -28,7 +28,7 @@ impl Drivers {
     /// last instance to the first, and then those of ports, from the first to the last.
     pub fn of(alloc: Global, design: &Design, tables: &Tables) -> Result<Self, AllocError>
         requires faultless { HasNoModelFault design.now }
-        requires tables { AreTables design.now tables.now }
+        requires tables { AreDesignTables design.now tables.now }
         ensures { IfOk result (AreDrivers design.now tables.now) }
     {
         let outputs = outputs_by(alloc, tables)?;
@@ -41,7 +41,7 @@ impl Drivers {
 
     /// The driver of the nets of an instance on whose names the first claim has this number. It takes no memory.
     pub fn source(&self, tables: &Tables, instance: u32, claim: Option<u32>) -> Option<Source>
-        ensures { (design : Design) → HasNoModelFault design → AreTables design tables.now
+        ensures { (design : Design) → HasNoModelFault design → AreDesignTables design tables.now
             → AreDrivers design tables.now self.now
             → IsSource design tables.now instance claim result }
     {

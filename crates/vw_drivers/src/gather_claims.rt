@@ -4,7 +4,7 @@ ghost use Rattle.vw_design.specs.ModelNumbers.{AreModelNumbers};
 ghost use Rattle.vw_design.specs.Paths.{placings};
 ghost use Rattle.vw_design.specs.Claims.{and_behind};
 ghost use Rattle.vw_drivers.specs.Outputs.{AreOutputs};
-ghost use Rattle.vw_drivers.specs.Steps.GatheredClaims.{model_outputs_at, port_first, with_firsts, binds_made, item_made, with_claim, with_all, with_items, ports_only, IsModelNumber};
+ghost use Rattle.vw_drivers.specs.Steps.GatheredClaims.{model_outputs_at, port_first, with_firsts, binds_made, item_made, with_claim, with_first_claims, with_item_claims, ports_only, IsModelNumber};
 ghost use Rattle.vw_drivers.specs.Claimed.{AreClaims};
 
 use crate::claim::{Claim, RepeatedClaim};
@@ -64,7 +64,7 @@ impl ModelClaims {
         outputs: &Outputs,
     ) -> Result<(), AllocError>
         ensures { OnOk result (self.new
-            ≡ with_all item (binds_made outputs.now place 0 binds.now) self.old) }
+            ≡ with_first_claims item (binds_made outputs.now place 0 binds.now) self.old) }
     {
         for (number, bind) in binds.iter().enumerate() {
             if outputs.has(bind.formal().as_slice()) {
@@ -91,7 +91,7 @@ impl ModelClaims {
     ) -> Result<(), AllocError>
         requires { IfSome target (λ model. model < length outputs.now) }
         ensures { OnOk result (self.new
-            ≡ with_all item (binds_made
+            ≡ with_first_claims item (binds_made
             (model_outputs_at outputs.now target) place 0 binds.now) self.old) }
     {
         match target {
@@ -115,7 +115,7 @@ impl ModelClaims {
         requires target { IsModelNumber design.now item.now target }
         requires within { before ≤ number }
         ensures { OnOk result (self.new
-            ≡ with_all number (item_made design.now number before item.now) self.old) }
+            ≡ with_first_claims number (item_made design.now number before item.now) self.old) }
     {
         match item {
             Item::Names { out, .. } => self.add(alloc, number, out, Claim::Driven(number)),
@@ -138,7 +138,7 @@ impl ModelClaims {
     ) -> Result<(), AllocError>
         requires outputs { AreOutputs design.now outputs.now }
         requires placed { AreModelNumbers design.now (placings items.now) placed.now }
-        ensures { OnOk result (self.new ≡ with_items design.now 0 0 items.now self.old) }
+        ensures { OnOk result (self.new ≡ with_item_claims design.now 0 0 items.now self.old) }
     {
         let mut before = 0;
         for (index, item) in items.iter().enumerate() {

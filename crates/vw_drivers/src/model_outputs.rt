@@ -41,7 +41,8 @@ impl<'a> Outputs<'a> {
     }
 }
 
-/// For each model of a design, the set of its outputs.
+/// For each model of a design, the set of its outputs. They are made once: a set made again for each instance would cost the
+/// square of the text.
 pub fn output_sets<'a>(alloc: Global, design: &'a Design) -> Result<Vec<Outputs<'a>>, AllocError>
     ensures { IfOk result (λ outputs. AreOutputs design.now outputs.items) }
 {

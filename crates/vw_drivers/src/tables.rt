@@ -7,7 +7,7 @@ ghost use Rattle.vw_design.specs.PathValue.{place_of_path};
 ghost use Rattle.vw_design.specs.Preorder.{instances};
 ghost use Rattle.vw_instances.specs.Sizes.{AreBefore};
 ghost use Rattle.vw_instances.specs.Tables.{ArePlaced};
-ghost use Rattle.vw_drivers.specs.Tables.{AreTables};
+ghost use Rattle.vw_drivers.specs.Tables.{AreDesignTables};
 
 use crate::claimed::all_claims;
 use crate::gather_names::names_of;
@@ -39,7 +39,7 @@ impl Tables {
     ) -> Result<Self, AllocError>
         requires instances { ArePlaced targets.now.design.now instances }
         requires before { AreBefore targets.now.design.now before }
-        ensures tables { IfOk result (AreTables targets.now.design.now) }
+        ensures tables { IfOk result (AreDesignTables targets.now.design.now) }
         ensures instances { IfOk result (λ tables. tables.instances ≡ instances) }
     {
         let claims = all_claims(alloc, targets)?;
@@ -83,7 +83,7 @@ impl Tables {
     /// The number of the instance at a place of an instance. Nothing where the instance has no such place. Nothing is said
     /// of an instance that isn't there. It takes no memory and looks up no name.
     pub fn child(&self, instance: u32, place: u32) -> Option<u32>
-        ensures { (design : Design) → HasNoModelFault design → AreTables design self.now
+        ensures { (design : Design) → HasNoModelFault design → AreDesignTables design self.now
             → (path : Path) → slice_get (instances design) instance ≡ Some path
             → result ≡ place_of_path (instances design) (place ∷ path) }
     {

@@ -4,7 +4,7 @@ use Rattle.std.specs.Option.{option_or}
 use Rattle.std.proofs.lemmas.Option.{none-some, same_Some}
 use Rattle.vw_design.specs.declared.design.Design.{Design}
 use Rattle.vw_design.specs.Paths.{Word, Net, printed}
-use Rattle.vw_design.specs.ModelFaults.{NameAt, NameOf, unknown_formal, unbound_input, both_ways}
+use Rattle.vw_design.specs.ModelFaults.{NameAt, NameOf, unknown_formal, unbound_input, port_both_ways}
 use Rattle.vw_design.specs.NetFaults.{Unlike, Edged}
 use Rattle.vw_design.specs.Limits.{Counted, too_big}
 use Rattle.vw_design.specs.Accepted.{Fault, formal_unknown, input_unbound, output_both_ways, over_limit, net_undriven, driven_twice, clock_gated, clocks_differ, edges_differ, clock_read, HasNoModelFault, fault_of_models, fault_of_nets, IsFurtherFault}
@@ -73,7 +73,7 @@ models_by a b c d =
 
 -- the first fault of models is the design's
 pub first_of_models : (design : Design) → HasKnownModels design → {a b : Option NameAt} → {c : Option NameOf} → (fault : Fault)
-    → unknown_formal design ≡ a → unbound_input design ≡ b → both_ways design ≡ c → models_by a b c (too_big design) ≡ Some fault → IsFurtherFault design fault
+    → unknown_formal design ≡ a → unbound_input design ≡ b → port_both_ways design ≡ c → models_by a b c (too_big design) ≡ Some fault → IsFurtherFault design fault
 first_of_models design models fault formals inputs outputs is = record {
   models_known = models.known;
   no_circle = models.no_circle;

@@ -14,8 +14,8 @@ abbrev pub HasNet : Design → (Net → Fault) → Word → Type 0
 HasNet design fault text = (net : Net) × IsFaultOf design (fault net) × (text ≡ printed net)
 
 -- the fault of a design with two such latches, by the nets that they drive
-abbrev pub HasLatches : Design → Word → Word → Type 0
-HasLatches design first other =
+abbrev pub HasUnlikeLatches : Design → Word → Word → Type 0
+HasUnlikeLatches design first other =
     (latches : Unlike Edged) × IsFaultOf design (edges_differ latches) × (first ≡ printed latches.first.net) × (other ≡ printed latches.other.net)
 
 -- what is told is the fault of the design; want of memory tells nothing of it
@@ -30,7 +30,7 @@ IsRefusal design (Undriven net) = HasNet design (λ n. net_undriven n) net
 IsRefusal design (TwoDrivers net) = HasNet design (λ n. driven_twice n) net
 IsRefusal design (GatedClock net) = HasNet design (λ n. clock_gated n) net
 IsRefusal design (SeveralClocks first other) = IsFaultOf design (clocks_differ (record { first = first; other = other }))
-IsRefusal design (SeveralEdges first other) = HasLatches design first other
+IsRefusal design (SeveralEdges first other) = HasUnlikeLatches design first other
 IsRefusal design (ClockAsData net) = HasNet design (λ n. clock_read n) net
 IsRefusal design NoMemory = Unit {0}
 

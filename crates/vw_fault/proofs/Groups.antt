@@ -2,11 +2,12 @@
 use Rattle.std.proofs.Common.{◌≡◌, ◌<◌, ◌≤◌, ◌+◌, ◌++◌, ◌||◌, ◌∙◌, append_assoc, not, ℕ, zero, suc, Bool, true, false, List, [], ◌∷◌, length, map, take, drop, get_or, slice_get, filter, Some, if◌then◌else◌, ap, ap₂, sym, refl, arith}
 use Rattle.std.proofs.Math.Bool.{or_assoc}
 use Rattle.std.proofs.Math.Path.{fun_ext}
-use Rattle.std.proofs.lemmas.List.{drop_all, drop_more, take-append-drop}
+use Rattle.std.proofs.lemmas.List.{drop_all, drop_more, get_or-take, length-take-le, take-append-drop, take-append-le}
 use Rattle.std.proofs.lemmas.List.Elements.{All-weaker, filter-append}
+use Rattle.std.proofs.lemmas.Option.{get_or_from_slice_get}
 use Rattle.vw_net.specs.declared.flat.Flat.{Flat}
 use Rattle.vw_net.specs.FoundValue.{found_value}
-use Rattle.vw_net.specs.History.{next_state, outputs_of}
+use Rattle.vw_net.specs.History.{next_state, outputs_at, outputs_of}
 use Rattle.vw_net.specs.TruthTable.{bit_of}
 use Rattle.vw_net.proofs.Counts.{length-outputs_at, length-outputs_of}
 use Rattle.vw_net.proofs.DrivenValues.{map_agree}
@@ -14,7 +15,7 @@ use Rattle.vw_fault.specs.declared.grading.Grading.{Grading}
 use Rattle.vw_fault.specs.declared.open.Open.{Open}
 use Rattle.vw_fault.specs.declared.stuck.Stuck.{Stuck}
 use Rattle.vw_fault.specs.Found.{found_next_state, found_outputs, found_outputs_at}
-use Rattle.vw_fault.specs.Steps.Groups.{is_seen, left_open}
+use Rattle.vw_fault.specs.Steps.Groups.{is_seen, left_open, plain_of, rows_of}
 use Rattle.vw_fault.specs.Steps.Lanes.{find_in, lane_bits}
 use Rattle.vw_fault.specs.Stuck.{bits_differ, clocks_differ, differ, find_stuck, is_detected}
 
@@ -86,18 +87,48 @@ left_filtered seen lane test (fault ∷ faults) is =
 pub all_seen : (seen later whole : Bool) → seen ≡ true → (seen || later) ≡ whole → seen ≡ whole
 all_seen seen later whole is so_far = is ∙ (rw is at so_far)
 
+-- there are as many clocks of plain outputs as rows
+pub plain_length : (grading : Grading) → length grading.plain.now ≡ length grading.rows.now
+plain_length grading = ap length grading.plain_is ∙ length-outputs_of grading.ordered.now.flat grading.start.now grading.rows.now
+
+-- as many of both are run as are counted
+pub rows_size : (grading : Grading) → length (rows_of grading) ≡ grading.count
+rows_size grading = length-take-le grading.count grading.rows.now grading.counted
+
+pub plain_size : (grading : Grading) → length (plain_of grading) ≡ grading.count
+plain_size grading = length-take-le grading.count grading.plain.now (omega (arith, grading.counted, plain_length grading))
+
+-- the outputs of the first rows
+pub outputs_of-take : (flat : Flat) (state : List Bool) (count : ℕ) (rows : List (List Bool)) → take count (outputs_of flat state rows) ≡ outputs_of flat state (take count rows)
+outputs_of-take flat state zero rows = refl
+outputs_of-take flat state (suc count) [] = refl
+outputs_of-take flat state (suc count) (row ∷ rows) = ap (λ (more : List (List Bool)). outputs_at flat row state ∷ more) (outputs_of-take flat (next_state flat row state) count rows)
+
+-- the plain outputs are those of the rows that are run
+pub plain_run : (grading : Grading) → plain_of grading ≡ outputs_of grading.ordered.now.flat grading.start.now (rows_of grading)
+plain_run grading = ap (take grading.count) grading.plain_is ∙ outputs_of-take grading.ordered.now.flat grading.start.now grading.count grading.rows.now
+
+-- fewer of the first ones
+pub fewer : {X : Type 0} (few count : ℕ) (xs : List X) → few ≤ count → count ≤ length xs → take few xs ≡ take few (take count xs)
+fewer few count xs less within =
+    ap (take few) (sym (take-append-drop count xs)) ∙ take-append-le few (take count xs) (drop count xs) (omega (arith, less, length-take-le count xs within))
+
+-- what stands at a place among the first ones
+pub among_first : {X : Type 0} (xs : List X) (count place : ℕ) (x : X) → slice_get xs place ≡ Some x → place < count → x ≡ get_or (take count xs) place x
+among_first xs count place x is low = sym (get_or-take count xs place x low ∙ get_or_from_slice_get xs place x x is)
+
 -- the lane of a fault is seen exactly where the rows reveal it
 pub seen_is : (grading : Grading) (stuck : Stuck) (state : List ℕ) (seen idle lane : ℕ) (fault : Open)
-    → bit_of seen lane ≡ (bit_of idle lane || clocks_differ (found_outputs (find_in stuck lane) grading.ordered.now.flat (lane_bits lane state) grading.rows.now) grading.plain.now) → bit_of idle lane ≡ false → lane_bits lane state ≡ grading.start.now
+    → bit_of seen lane ≡ (bit_of idle lane || clocks_differ (found_outputs (find_in stuck lane) grading.ordered.now.flat (lane_bits lane state) (rows_of grading)) (plain_of grading)) → bit_of idle lane ≡ false → lane_bits lane state ≡ grading.start.now
     → ((net : ℕ) (bit : Bool) → find_in stuck lane net bit ≡ find_stuck fault net bit) → bit_of seen lane ≡ is_seen grading fault
 unfolding is_detected
 seen_is grading stuck state seen idle lane fault is not_idle begins found =
     let flat = grading.ordered.now.flat in
     let same : find_in stuck lane ≡ find_stuck fault = fun_ext (λ net. fun_ext (found net)) in
     is
-    ∙ ap (λ (b : Bool). b || clocks_differ (found_outputs (find_in stuck lane) flat (lane_bits lane state) grading.rows.now) grading.plain.now) not_idle
-    ∙ ap₂ (λ (find : ℕ → Bool → Bool) (start : List Bool). clocks_differ (found_outputs find flat start grading.rows.now) grading.plain.now) same begins
-    ∙ ap (clocks_differ (found_outputs (find_stuck fault) flat grading.start.now grading.rows.now)) grading.plain_is
+    ∙ ap (λ (b : Bool). b || clocks_differ (found_outputs (find_in stuck lane) flat (lane_bits lane state) (rows_of grading)) (plain_of grading)) not_idle
+    ∙ ap₂ (λ (find : ℕ → Bool → Bool) (start : List Bool). clocks_differ (found_outputs find flat start (rows_of grading)) (plain_of grading)) same begins
+    ∙ ap (clocks_differ (found_outputs (find_stuck fault) flat grading.start.now (rows_of grading))) (plain_run grading)
 
 -- a group more
 pub group_further : (test : Open → Bool) (rest front back left new whole : List Open) (count : ℕ) → front ≡ take count rest → back ≡ drop count rest → new ≡ left ++ filter test front → left ++ filter test rest ≡ whole → new ++ filter test back ≡ whole
@@ -107,7 +138,3 @@ group_further test rest front back left new whole count first second added so_fa
     ∙ append_assoc left (filter test front) (filter test back)
     ∙ ap (λ (all : List Open). left ++ all) (sym (filter-append test front back) ∙ ap (filter test) together)
     ∙ so_far
-
--- there are as many clocks of plain outputs as rows
-pub plain_size : (grading : Grading) → length grading.plain.now ≡ length grading.rows.now
-plain_size grading = ap length grading.plain_is ∙ length-outputs_of grading.ordered.now.flat grading.start.now grading.rows.now

@@ -8,7 +8,7 @@ use Rattle.vw_net.specs.declared.flat.Flat.{Flat}
 use Rattle.vw_net.specs.Cells.{read_nets}
 use Rattle.vw_net.specs.Order.{read_nets_at}
 use Rattle.vw_fault.specs.declared.open.Open.{Open}
-use Rattle.vw_fault.specs.Reached.{IsClosed}
+use Rattle.vw_fault.specs.Reached.{IsClosedByReading}
 use Rattle.vw_fault.specs.Steps.Reaching.{is_marked}
 use Rattle.vw_fault.proofs.RowLanes.{drop_at}
 
@@ -29,7 +29,7 @@ module _ (marks : List Bool) where
 
   -- all of them
   pub closed_by : (flat : Flat) (place : ℕ) → length flat.cells ≤ place → AreMarked flat.outputs
-      → ((number : ℕ) → number < place → is_marked marks (flat.inputs + number) ≡ true → AreMarked (read_nets_at (slice_get flat.cells number))) → IsClosed flat (is_marked marks)
+      → ((number : ℕ) → number < place → is_marked marks (flat.inputs + number) ≡ true → AreMarked (read_nets_at (slice_get flat.cells number))) → IsClosedByReading flat (is_marked marks)
   closed_by flat place past outputs before = record { outputs = outputs; reads = reads } where
     reads : (number : ℕ) → is_marked marks (flat.inputs + number) ≡ true → AreMarked (read_nets_at (slice_get flat.cells number))
     reads number marked =

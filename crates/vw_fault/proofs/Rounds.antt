@@ -8,13 +8,12 @@ use Rattle.vw_net.specs.declared.flat.Flat.{Flat}
 use Rattle.vw_net.specs.declared.ordered.Ordered.{Ordered}
 use Rattle.vw_net.specs.FoundValue.{as_it_is, found_value}
 use Rattle.vw_net.specs.Gathered.{gather}
-use Rattle.vw_net.specs.History.{next_state, outputs_at, outputs_of}
 use Rattle.vw_fault.specs.declared.grading.Grading.{Grading}
 use Rattle.vw_fault.specs.declared.open.Open.{Open}
 use Rattle.vw_fault.specs.Found.{found_next_state, found_outputs, found_outputs_at}
-use Rattle.vw_fault.specs.Steps.Groups.{is_seen, open_of}
+use Rattle.vw_fault.specs.Steps.Groups.{is_seen, open_of, rows_of}
 use Rattle.vw_fault.specs.Stuck.{is_detected, net_faults}
-use Rattle.vw_fault.specs.Reached.{IsClosed}
+use Rattle.vw_fault.specs.Reached.{IsClosedByReading}
 use Rattle.vw_fault.specs.Steps.Reaching.{is_marked}
 use Rattle.vw_fault.proofs.Differences.{detected_sooner}
 use Rattle.vw_fault.proofs.Groups.{outputs-from_found}
@@ -32,17 +31,17 @@ filtered_again : {X : Type 0} (test weaker : X → Bool) → ((x : X) → test x
 filtered_again test weaker further [] = refl
 filtered_again test weaker further (x ∷ xs) = one_more test weaker further x xs (filtered_again test weaker further xs) (test x) (weaker x) refl refl
 
-module _ (grading first : Grading) (count : ℕ) (ordered : first.ordered.now ≡ grading.ordered.now) (start : first.start.now ≡ grading.start.now) (rows : first.rows.now ≡ take count grading.rows.now) where
+module _ (grading first : Grading) (count : ℕ) (ordered : first.ordered.now ≡ grading.ordered.now) (start : first.start.now ≡ grading.start.now) (rows : rows_of first ≡ take count (rows_of grading)) where
   -- what the first rows reveal, all rows reveal
   seen_sooner : (fault : Open) → is_seen first fault ≡ true → is_seen grading fault ≡ true
   seen_sooner fault seen =
       let flat = grading.ordered.now.flat in
-      let front = take count grading.rows.now in
+      let front = take count (rows_of grading) in
       let same : is_seen first fault ≡ is_detected flat grading.start.now front fault =
-      ap (λ (o : Ordered). is_detected o.flat first.start.now first.rows.now fault) ordered
+      ap (λ (o : Ordered). is_detected o.flat first.start.now (rows_of first) fault) ordered
       ∙ ap₂ (λ (s : List Bool) (r : List (List Bool)). is_detected flat s r fault) start rows in
-      sym (ap (λ (r : List (List Bool)). is_detected flat grading.start.now r fault) (take-append-drop count grading.rows.now))
-      ∙ detected_sooner flat grading.start.now front (drop count grading.rows.now) fault (sym same ∙ seen)
+      sym (ap (λ (r : List (List Bool)). is_detected flat grading.start.now r fault) (take-append-drop count (rows_of grading)))
+      ∙ detected_sooner flat grading.start.now front (drop count (rows_of grading)) fault (sym same ∙ seen)
 
   open_sooner : (fault : Open) → not (is_seen grading fault) ≡ true → not (is_seen first fault) ≡ true
   open_sooner fault is_open =
@@ -55,12 +54,6 @@ module _ (grading first : Grading) (count : ℕ) (ordered : first.ordered.now �
   pub pass_further : (left after whole : List Open) → after ≡ open_of first left → open_of grading left ≡ whole → open_of grading after ≡ whole
   pass_further left after whole are so_far =
       ap (open_of grading) are ∙ filtered_again (λ fault. not (is_seen grading fault)) (λ fault. not (is_seen first fault)) open_sooner left ∙ so_far
-
--- the outputs of the first rows
-pub outputs_of-take : (flat : Flat) (state : List Bool) (count : ℕ) (rows : List (List Bool)) → take count (outputs_of flat state rows) ≡ outputs_of flat state (take count rows)
-outputs_of-take flat state zero rows = refl
-outputs_of-take flat state (suc count) [] = refl
-outputs_of-take flat state (suc count) (row ∷ rows) = ap (λ (more : List (List Bool)). outputs_at flat row state ∷ more) (outputs_of-take flat (next_state flat row state) count rows)
 
 -- the faults of so many nets are of these nets
 pub faults_within : (nets : ℕ) → All (λ fault. fault.net < nets) (gather net_faults nets)
@@ -88,8 +81,8 @@ plain_further flat find state after row bits value rows made new whole place wit
     ∙ so_far
 
 -- a fault of a net that reaches no output isn't seen, so it need not be looked for
-pub unreached_listed : (grading : Grading) (marks : List Bool) → IsClosed grading.ordered.now.flat (is_marked marks) → (faults : List Open) → filter (λ fault. not (is_marked marks fault.net) || not (is_seen grading fault)) faults ≡ open_of grading faults
+pub unreached_listed : (grading : Grading) (marks : List Bool) → IsClosedByReading grading.ordered.now.flat (is_marked marks) → (faults : List Open) → filter (λ fault. not (is_marked marks fault.net) || not (is_seen grading fault)) faults ≡ open_of grading faults
 unreached_listed grading marks closed faults = ap (λ (test : Open → Bool). filter test faults) (fun_ext (λ fault. by fault (is_marked marks fault.net) refl)) where
   by : (fault : Open) (marked : Bool) → is_marked marks fault.net ≡ marked → (not (is_marked marks fault.net) || not (is_seen grading fault)) ≡ not (is_seen grading fault)
   by fault true is = rw is refl
-  by fault false is = rw is (sym (ap not (unreached grading.ordered.now.flat grading.start.now grading.rows.now fault (is_marked marks) closed is)))
+  by fault false is = rw is (sym (ap not (unreached grading.ordered.now.flat grading.start.now (rows_of grading) fault (is_marked marks) closed is)))

@@ -15,7 +15,7 @@ use Rattle.vw_net.specs.Value.{driven_value}
 use Rattle.vw_net.proofs.DrivenValues.{map_agree}
 use Rattle.vw_fault.specs.declared.open.Open.{Open}
 use Rattle.vw_fault.specs.Found.{found_outputs_at, found_next_state, found_outputs}
-use Rattle.vw_fault.specs.Reached.{IsClosed}
+use Rattle.vw_fault.specs.Reached.{IsClosedByReading}
 use Rattle.vw_fault.specs.Stuck.{find_stuck, is_detected}
 use Rattle.vw_fault.proofs.Differences.{undetected}
 use Rattle.vw_fault.proofs.Plain.{plain_outputs}
@@ -32,7 +32,7 @@ mapped_at value [] place net is = absurd (none-some net is)
 mapped_at value (first ∷ nets) zero net is = ap value (same_Some first net is)
 mapped_at value (first ∷ nets) (suc place) net is = mapped_at value nets place net is
 
-module _ (find other : ℕ → Bool → Bool) (flat : Flat) (reaches : ℕ → Bool) (closed : IsClosed flat reaches)
+module _ (find other : ℕ → Bool → Bool) (flat : Flat) (reaches : ℕ → Bool) (closed : IsClosedByReading flat reaches)
     (same : (net : ℕ) → reaches net ≡ true → (bit : Bool) → find net bit ≡ other net bit) where
   -- two states in which the latches that reach an output have the same bits
   record Agree (one two : List Bool) : Type 0 where
@@ -97,7 +97,7 @@ module _ (find other : ℕ → Bool → Bool) (flat : Flat) (reaches : ℕ → B
       (all_outputs_same (found_next_state find flat row one) (found_next_state other flat row two) rows (next_agree row one two agree))
 
 -- a fault of a net that is not among nets that are closed
-pub unreached : (flat : Flat) (start : List Bool) (rows : List (List Bool)) (fault : Open) (reaches : ℕ → Bool) → IsClosed flat reaches → reaches fault.net ≡ false → is_detected flat start rows fault ≡ false
+pub unreached : (flat : Flat) (start : List Bool) (rows : List (List Bool)) (fault : Open) (reaches : ℕ → Bool) → IsClosedByReading flat reaches → reaches fault.net ≡ false → is_detected flat start rows fault ≡ false
 unreached flat start rows fault reaches closed not_its =
     let other_net = λ (net : ℕ) (its : reaches net ≡ true) (is : net ≡ fault.net). true≢false (sym its ∙ ap reaches is ∙ not_its) in
     let same = λ (net : ℕ) (its : reaches net ≡ true) (bit : Bool). ap (λ (here : Bool). if here then fault.bit else bit) (ne_eqb net fault.net (other_net net its)) in
@@ -113,5 +113,5 @@ others (first ∷ numbers) number none =
 -- nets other than one that nothing reads are closed
 pub unread : (flat : Flat) (start : List Bool) (rows : List (List Bool)) (fault : Open) → is_among flat.outputs fault.net ≡ false → ((number : ℕ) → is_among (read_nets_at (slice_get flat.cells number)) fault.net ≡ false) → is_detected flat start rows fault ≡ false
 unread flat start rows fault no_output no_read =
-    let closed : IsClosed flat (λ net. not (net == fault.net)) = record { outputs = others flat.outputs fault.net no_output; reads = λ number its. others (read_nets_at (slice_get flat.cells number)) fault.net (no_read number) } in
+    let closed : IsClosedByReading flat (λ net. not (net == fault.net)) = record { outputs = others flat.outputs fault.net no_output; reads = λ number its. others (read_nets_at (slice_get flat.cells number)) fault.net (no_read number) } in
     unreached flat start rows fault (λ net. not (net == fault.net)) closed (ap not (eq-eqb fault.net fault.net refl))

@@ -10,11 +10,11 @@ ghost use Rattle.vw_fault.specs.Steps.Lanes.{find_in, is_no_latch_net, lane_bits
 use crate::gate::gate_word;
 use crate::stuck::Stuck;
 use crate::words::{Words, spread};
-use vw_net::{Bits, Cell, Flat, Ordered, found_gates_settle};
+use vw_net::{Cell, Flat, Ordered, found_gates_settle};
 
 /// One clock in each lane: puts what is found of each net into `words`, and the next value of each latch into `state`, all of
 /// them together. It takes no memory.
-pub fn clock(ordered: &Ordered, stuck: &Stuck, row: &Bits, state: &mut Words, words: &mut Words)
+pub fn clock(ordered: &Ordered, stuck: &Stuck, row: &[bool], state: &mut Words, words: &mut Words)
     requires columns { length row.now ≡ ordered.now.flat.inputs }
     requires latches { length state.old ≡ latch_count ordered.now.flat.cells }
     requires nets { length words.old ≡ ordered.now.flat.inputs + length ordered.now.flat.cells }
@@ -37,7 +37,7 @@ pub fn clock(ordered: &Ordered, stuck: &Stuck, row: &Bits, state: &mut Words, wo
 }
 
 /// Puts what is found of each input into the place of its net.
-fn put_inputs(stuck: &Stuck, row: &Bits, words: &mut Words)
+fn put_inputs(stuck: &Stuck, row: &[bool], words: &mut Words)
     requires nets { length row.now ≤ length words.old }
     requires kept { length stuck.now.kept ≡ length words.old }
     requires forced { length stuck.now.forced ≡ length words.old }
@@ -46,7 +46,7 @@ fn put_inputs(stuck: &Stuck, row: &Bits, words: &mut Words)
         → slice_index_or (lane_bits lane words.new) net false
         ≡ find_in stuck.now lane net (slice_index_or row.now net false) }
 {
-    for (net, bit) in row.as_slice().iter().enumerate() {
+    for (net, bit) in row.iter().enumerate() {
         words.set(net, stuck.found(net, spread(*bit)));
     }
 }

@@ -5,7 +5,7 @@ ghost use Rattle.vw_net.specs.Cells.{latch_count};
 ghost use Rattle.vw_net.specs.TruthTable.{bit_of};
 ghost use Rattle.vw_fault.specs.declared.open.Open.{Open};
 ghost use Rattle.vw_fault.specs.Found.{found_outputs};
-ghost use Rattle.vw_fault.specs.Steps.Groups.{is_seen, left_open, net_count, open_of};
+ghost use Rattle.vw_fault.specs.Steps.Groups.{is_seen, left_open, net_count, open_of, plain_of, rows_of};
 ghost use Rattle.vw_fault.specs.Steps.Lanes.{find_in, lane_bits};
 ghost use Rattle.vw_fault.specs.Stuck.{bits_differ, clocks_differ};
 
@@ -94,33 +94,33 @@ fn seen_lanes(
     requires forced { length stuck.now.forced ≡ net_count grading.now }
     ensures { (lane : ℕ) → lane < 64 → bit_of result lane ≡ (bit_of idle lane
         || clocks_differ (found_outputs (find_in stuck.now lane) grading.now.ordered.now.flat
-        (lane_bits lane state.old) grading.now.rows.now) grading.now.plain.now) }
+        (lane_bits lane state.old) (rows_of grading.now)) (plain_of grading.now)) }
 {
     let ordered = grading.ordered;
+    let rows = grading.rows;
     let plain = grading.plain;
     let outputs = ordered.flat().outputs();
     let mut seen = idle;
-    for (number, row) in grading.rows.iter().enumerate() {
+    for number in 0..grading.count {
         if seen == u64::MAX {
             break;
         }
-        clock(ordered, stuck, row, state, words);
-        seen = differing(outputs, words, &plain[number], seen);
+        clock(ordered, stuck, rows.row(number), state, words);
+        seen = differing(outputs, words, plain.row(number), seen);
     }
     seen
 }
 
 /// The lanes seen so far, and those in which the bits of these nets differ from the plain ones.
-fn differing(outputs: &[u32], words: &Words, plain: &Bits, seen: u64) -> u64
+fn differing(outputs: &[u32], words: &Words, plain: &[bool], seen: u64) -> u64
     requires plain { length plain.now ≡ length outputs.now }
     requires within { All (λ net. net < length words.now) outputs.now }
     ensures { (lane : ℕ) → lane < 64 → bit_of result lane ≡ (bit_of seen lane
         || bits_differ (map (λ net. slice_index_or (lane_bits lane words.now) net false) outputs.now) plain.now) }
 {
     let mut seen = seen;
-    let bits = plain.as_slice();
     for (place, net) in outputs.iter().enumerate() {
-        seen |= words.get(*net as usize) ^ spread(bits[place]);
+        seen |= words.get(*net as usize) ^ spread(plain[place]);
     }
     seen
 }

@@ -7,7 +7,7 @@ ghost use Rattle.vw_net.specs.History.{outputs_of};
 ghost use Rattle.vw_net.specs.Order.{is_among, read_nets_at};
 ghost use Rattle.vw_fault.specs.declared.open.Open.{Open};
 ghost use Rattle.vw_fault.specs.Found.{found_outputs};
-ghost use Rattle.vw_fault.specs.Reached.{IsClosed};
+ghost use Rattle.vw_fault.specs.Reached.{IsClosedByReading};
 ghost use Rattle.vw_fault.specs.Stuck.{find_stuck, is_detected};
 
 /// Where each net is found as it is, the outputs are those of the netlist.
@@ -34,7 +34,7 @@ pub fn first_rows_reveal()
 /// net of a cell, each net that this cell reads.
 pub fn unreached_nets_are_open()
     ensures { (flat : Flat) (start : List Bool) (rows : List (List Bool)) (fault : Open)
-        (reaches : ℕ → Bool) → IsClosed flat reaches → reaches fault.net ≡ false
+        (reaches : ℕ → Bool) → IsClosedByReading flat reaches → reaches fault.net ≡ false
         → is_detected flat start rows fault ≡ false }
 {}
 

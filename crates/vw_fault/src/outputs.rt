@@ -10,42 +10,42 @@ use crate::group::state_words;
 use crate::stuck::Stuck;
 use crate::words::Words;
 use std::alloc::{AllocError, Global};
-use vw_net::{Bits, Ordered, bit_of};
+use vw_net::{Bits, Ordered, Rows, bit_of};
 
-/// The outputs of each clock. It takes a byte for each of them, and 24 a row.
+/// The outputs of each clock. It takes a byte for each of them, and 8 a row.
 pub fn plain_outputs(
     alloc: Global,
     ordered: &Ordered,
     start: &Bits,
-    rows: &[Bits],
-) -> Result<Vec<Bits>, AllocError>
+    rows: &Rows,
+) -> Result<Rows, AllocError>
     requires latches { length start.now ≡ latch_count ordered.now.flat.cells }
     requires columns { All (λ row. length row ≡ ordered.now.flat.inputs) rows.now }
-    ensures { IfOk result (λ clocks. clocks.items ≡ outputs_of ordered.now.flat start.now rows.now) }
+    ensures { IfOk result (λ clocks. clocks ≡ outputs_of ordered.now.flat start.now rows.now) }
 {
     let flat = ordered.flat();
     let nets = flat.inputs() as usize + flat.cells().len();
     let stuck = Stuck::none(alloc, nets)?;
     let mut state = state_words(alloc, start)?;
     let mut words = Words::filled(alloc, 0, nets)?;
-    let mut clocks = Vec::new(alloc);
-    for row in rows {
-        clock(ordered, &stuck, row, &mut state, &mut words);
-        let bits = first_bits(alloc, flat.outputs(), &words)?;
-        clocks.push(bits)?;
+    let mut bits = vec![in alloc; false; flat.outputs().len()]?;
+    let mut clocks = Rows::new(alloc);
+    for number in 0..rows.len() {
+        clock(ordered, &stuck, rows.row(number), &mut state, &mut words);
+        first_bits(flat.outputs(), &words, &mut bits);
+        clocks.push(&bits)?;
     }
     Ok(clocks)
 }
 
-/// The bits of these nets in lane 0.
-fn first_bits(alloc: Global, nets: &[u32], words: &Words) -> Result<Bits, AllocError>
-    requires { All (λ net. net < length words.now) nets.now }
-    ensures { IfOk result (λ bits. bits
-        ≡ map (λ net. slice_index_or (lane_bits 0 words.now) net false) nets.now) }
+/// Writes the bits of these nets in lane 0 over a list.
+fn first_bits(nets: &[u32], words: &Words, bits: &mut [bool])
+    requires within { All (λ net. net < length words.now) nets.now }
+    requires size { length bits.old ≡ length nets.now }
+    ensures { bits.new
+        ≡ map (λ net. slice_index_or (lane_bits 0 words.now) net false) nets.now }
 {
-    let mut bits = Vec::with_capacity(alloc, nets.len())?;
-    for net in nets {
-        bits.push(bit_of(words.get(*net as usize), 0))?;
+    for (place, net) in nets.iter().enumerate() {
+        bits[place] = bit_of(words.get(*net as usize), 0);
     }
-    Ok(Bits::of(bits))
 }

@@ -3,7 +3,7 @@ ghost use Rattle.std.specs.Prelude.{◌≡◌, ◌<◌, ◌≤◌, length, take,
 ghost use Rattle.std.specs.List.{All};
 ghost use Rattle.vw_net.specs.Cells.{latch_count};
 ghost use Rattle.vw_net.specs.Gathered.{gather};
-ghost use Rattle.vw_fault.specs.Steps.Groups.{net_count, open_of};
+ghost use Rattle.vw_fault.specs.Steps.Groups.{net_count, open_of, rows_of};
 ghost use Rattle.vw_fault.specs.Stuck.{net_faults, open_faults};
 
 use crate::grading::Grading;
@@ -37,7 +37,6 @@ pub fn grade<R: Threads + Sync>(
     requires workers { (1 ≤ workers) × (workers ≤ 64) }
     ensures { IfOk result (λ left. left.items ≡ open_faults ordered.now.flat start.now rows.now) }
 {
-    let rows = rows.as_slice();
     let flat = ordered.flat();
     let faults = all_faults(alloc, flat.inputs() + flat.cells().len() as u32)?;
     let plain = plain_outputs(alloc, ordered, start, rows)?;
@@ -46,6 +45,7 @@ pub fn grade<R: Threads + Sync>(
         start,
         rows,
         plain: &plain,
+        count: rows.len(),
     };
     open_with_unreached(rt, alloc, &grading, &faults, workers)
 }
@@ -93,8 +93,9 @@ fn open_in_passes<R: Threads + Sync>(
     ensures { IfOk result (λ left. left.items ≡ open_of grading.now faults.items) }
 {
     let mut left = faults;
+    let all = grading.row_count();
     let mut count = FIRST_ROWS;
-    while count <= grading.rows.len() / 4 {
+    while count <= all / 4 {
         left = open_among(rt, alloc, &first_rows(grading, count), &left, workers)?;
         count = count.saturating_mul(4);
     }
@@ -103,15 +104,17 @@ fn open_in_passes<R: Threads + Sync>(
 
 /// The same for the first so many rows.
 fn first_rows<'a>(grading: &Grading<'a>, count: usize) -> Grading<'a>
-    requires { count ≤ length grading.now.rows.now }
+    requires { count ≤ grading.now.count }
     ensures ordered { result.ordered.now ≡ grading.now.ordered.now }
     ensures start { result.start.now ≡ grading.now.start.now }
-    ensures rows { result.rows.now ≡ take count grading.now.rows.now }
+    ensures rows { rows_of result ≡ take count (rows_of grading.now) }
+    ensures count { result.count ≡ count }
 {
     Grading {
         ordered: grading.ordered,
         start: grading.start,
-        rows: &grading.rows[..count],
-        plain: &grading.plain[..count],
+        rows: grading.rows,
+        plain: grading.plain,
+        count,
     }
 }

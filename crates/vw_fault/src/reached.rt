@@ -3,7 +3,7 @@ ghost use Rattle.std.specs.Prelude.{◌≡◌, true, length, replicate, slice_in
 ghost use Rattle.std.specs.Bool.{OnTrue};
 ghost use Rattle.std.specs.List.{All};
 ghost use Rattle.vw_net.specs.Cells.{read_nets};
-ghost use Rattle.vw_fault.specs.Reached.{IsClosed};
+ghost use Rattle.vw_fault.specs.Reached.{IsClosedByReading};
 ghost use Rattle.vw_fault.specs.Steps.Reaching.{is_marked};
 
 use std::alloc::{AllocError, Global};
@@ -12,7 +12,7 @@ use vw_net::{Cell, Flat};
 
 /// A mark for each net that may reach an output, over gates and latches. It takes 5 bytes a net, and looks at each cell twice.
 pub fn reached_nets(alloc: Global, flat: &Flat) -> Result<Vec<bool>, AllocError>
-    ensures { IfOk result (λ marks. IsClosed flat.now (is_marked marks.items)) }
+    ensures { IfOk result (λ marks. IsClosedByReading flat.now (is_marked marks.items)) }
 {
     let nets = flat.inputs() as usize + flat.cells().len();
     let marks = spread_back(alloc, flat, nets)?;
@@ -35,7 +35,7 @@ pub fn is_marked(marks: &[bool], net: u32) -> bool
 
 /// Whether each output is marked, and with the net of a cell each net that the cell reads.
 fn is_closed(flat: &Flat, marks: &[bool]) -> bool
-    ensures { OnTrue result (IsClosed flat.now (is_marked marks.now)) }
+    ensures { OnTrue result (IsClosedByReading flat.now (is_marked marks.now)) }
 {
     if !are_marked(marks, flat.outputs()) {
         return false;

@@ -6,7 +6,7 @@ use std::marker::Sync;
 use std::process::Abort;
 use std::test::Fail;
 use std::thread::Threads;
-use vw_net::{Bits, Cell, Init, Ordered, Rows};
+use vw_net::{Cell, Init, Ordered, Rows};
 
 /// Asserts which faults are open, with 1, 2, 8 and 64 workers.
 fn are_open<R: Threads + Abort + Sync>(
@@ -208,13 +208,13 @@ fn latched(alloc: Global, count: u32) -> Result<Ordered, Fail> {
 fn as_many_inputs_and_outputs_as_there_may_be_are_graded(rt: HostRuntime) -> Result<(), Fail> {
     let alloc = rt.alloc();
     let ordered = latched(alloc, 4_096)?;
-    let mut rows = Vec::new(alloc);
+    let mut rows = Rows::new(alloc);
     for bit in &[true, false] {
-        rows.push(Bits::of(vec![in alloc; *bit; 4_096]?))?;
+        rows.push(&vec![in alloc; *bit; 4_096]?)?;
     }
     // an input that is stuck at 1 would be seen a clock after the row of zeros
     let wanted = ones(alloc, 4_096)?;
-    let found = graded(&rt, alloc, &ordered, &Rows::of(rows), 8)?;
+    let found = graded(&rt, alloc, &ordered, &rows, 8)?;
     assert!(&rt; found.as_slice() == wanted.as_slice());
     Ok(())
 }

@@ -8,15 +8,15 @@ use std::marker::Sync;
 use std::test::Fail;
 use std::thread::Threads;
 use vw_fault::{Open, grade, grading_text};
-use vw_net::{Bits, Ordered, Rows};
+use vw_net::{Ordered, Rows};
 use vw_outside::Name;
 
 /// Whether each row is so wide.
-fn are_wide(rows: &[Bits], width: usize) -> bool
+fn are_wide(rows: &Rows, width: usize) -> bool
     ensures { OnTrue result (All (λ row. length row ≡ width) rows.now) }
 {
-    for row in rows {
-        if row.len() != width {
+    for place in 0..rows.len() {
+        if rows.row(place).len() != width {
             return false;
         }
     }
@@ -48,7 +48,7 @@ pub fn graded<R: Threads + Sync>(
         return Err("no workers".into());
     }
     let flat = ordered.flat();
-    if !are_wide(rows.as_slice(), flat.inputs() as usize) {
+    if !are_wide(rows, flat.inputs() as usize) {
         return Err("no rows".into());
     }
     let start = flat.start(alloc, false)?;
@@ -72,7 +72,7 @@ pub fn graded_text<R: Threads + Sync>(
     if names.len() != flat.inputs() as usize + flat.cells().len() {
         return Err("no names".into());
     }
-    if !are_wide(rows.as_slice(), flat.inputs() as usize) {
+    if !are_wide(rows, flat.inputs() as usize) {
         return Err("no rows".into());
     }
     let start = flat.start(alloc, false)?;

@@ -1,7 +1,7 @@
 //! Netlists of tests.
 use std::alloc::{AllocError, Global};
 use std::test::Fail;
-use vw_net::{Bits, Cell, Flat, Init, Mark, Ordered, Row, Rows, Sequence};
+use vw_net::{Cell, Flat, Init, Mark, Ordered, Row, Rows, Sequence};
 use vw_order::order;
 use vw_outside::Name;
 
@@ -89,21 +89,21 @@ pub fn made(alloc: Global, netlist: &Netlist) -> Result<Ordered, Fail> {
     ordered(alloc, netlist.inputs, cells, netlist.outputs)
 }
 
-fn bits_of(alloc: Global, signs: &str) -> Result<Bits, AllocError> {
+fn bits_of(alloc: Global, signs: &str) -> Result<Vec<bool>, AllocError> {
     let mut bits = Vec::new(alloc);
     for sign in signs.as_bytes() {
         bits.push(*sign == b'1')?;
     }
-    Ok(Bits::of(bits))
+    Ok(bits)
 }
 
 /// The rows that are written so.
 pub fn stimulus(alloc: Global, rows: &[&str]) -> Result<Rows, AllocError> {
-    let mut list = Vec::new(alloc);
+    let mut list = Rows::new(alloc);
     for row in rows {
-        list.push(bits_of(alloc, row)?)?;
+        list.push(&bits_of(alloc, row)?)?;
     }
-    Ok(Rows::of(list))
+    Ok(list)
 }
 
 /// A name with these bytes.

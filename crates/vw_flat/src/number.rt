@@ -3,14 +3,14 @@ ghost use Rattle.std.specs.Prelude.{◌≡◌, ◌<◌, [], Some, length, slice_
 ghost use Rattle.vw_design.specs.Preorder.{cells};
 ghost use Rattle.vw_design.specs.NetReads.{root_outputs};
 ghost use Rattle.vw_design.specs.Flattened.{number_of};
-ghost use Rattle.vw_flat.specs.Steps.Numbers.{number_by, IsSmall, HasNumber, net_count, numbers_at};
+ghost use Rattle.vw_flat.specs.Steps.Numbers.{number_by, Has32Bits, HasNumber, net_count, numbers_at};
 
 use vw_elab::{Driver, Elaborated};
 use vw_outside::Name;
 
 /// The number of the net of a driver: columns come first, and then cells. A clock port and a missing driver have none.
 pub fn number_by_driver(columns: u32, driver: Option<Driver>) -> Option<u32>
-    requires { IsSmall (number_by columns driver) }
+    requires { Has32Bits (number_by columns driver) }
     ensures { result ≡ number_by columns driver }
 {
     match driver? {

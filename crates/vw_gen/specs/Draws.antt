@@ -7,9 +7,9 @@ abbrev pub next : ℕ → ℕ
 next state = (75 * state + 74) % 65537
 
 -- the state after so many draws from a start
-abbrev pub state_after : ℕ → ℕ → ℕ
-state_after start draws = iterate next draws start
+abbrev pub drawn_state : ℕ → ℕ → ℕ
+drawn_state start draws = iterate next draws start
 
 -- what the draw with this number gives below a limit; draws are numbered from 1
 abbrev pub draw : ℕ → ℕ → ℕ → ℕ
-draw start number limit = state_after start number % limit
+draw start number limit = drawn_state start number % limit

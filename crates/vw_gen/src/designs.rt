@@ -2,7 +2,7 @@
 ghost use Rattle.std.specs.Prelude.{◌≡◌, ◌≤◌, ◌<◌, ◌+◌, ◌++◌, ◌∷◌, [], IfOk, OnOk};
 ghost use Rattle.std.specs.List.{flat_map, range_with_len};
 ghost use Rattle.vw_text.specs.Physical.{lines_text};
-ghost use Rattle.vw_gen.specs.Draws.{state_after};
+ghost use Rattle.vw_gen.specs.Draws.{drawn_state};
 ghost use Rattle.vw_gen.specs.Design.{outputs_line, names_line, gate_rows, gate_lines, latch_line, draws_before, cell_lines, design_text};
 
 use crate::draws::Draws;
@@ -56,7 +56,7 @@ fn push_gate(text: &mut Vec<u8>, draws: &mut Draws, cell: u32) -> Result<(), All
     requires { cell < 20000 }
     ensures text { OnOk result (text.new.items
         ≡ text.old.items ++ lines_text (gate_lines draws.old 0 cell)) }
-    ensures draws { OnOk result (draws.new ≡ state_after draws.old 3) }
+    ensures draws { OnOk result (draws.new ≡ drawn_state draws.old 3) }
 {
     let nearest = 7 + cell;
     let nets = (8 + cell).min(64);
@@ -79,7 +79,7 @@ fn push_latch(
     requires cell { cell < cells }
     ensures text { OnOk result (text.new.items
         ≡ text.old.items ++ (latch_line draws.old 0 cells cell ++ 10 ∷ [])) }
-    ensures draws { OnOk result (draws.new ≡ state_after draws.old 2) }
+    ensures draws { OnOk result (draws.new ≡ drawn_state draws.old 2) }
 {
     let input = draws.draw(8 + cells);
     let initial = draws.draw(2);
@@ -97,10 +97,10 @@ fn push_latch(
 fn push_cell(text: &mut Vec<u8>, draws: &mut Draws, cells: u32, cell: u32) -> Result<(), AllocError>
     requires few { cells ≤ 20000 }
     requires cell { cell < cells }
-    requires draws { draws.old ≡ state_after cells (draws_before cell) }
+    requires draws { draws.old ≡ drawn_state cells (draws_before cell) }
     ensures text { OnOk result (text.new.items
         ≡ text.old.items ++ lines_text (cell_lines cells cell)) }
-    ensures draws { OnOk result (draws.new ≡ state_after cells (draws_before (cell + 1))) }
+    ensures draws { OnOk result (draws.new ≡ drawn_state cells (draws_before (cell + 1))) }
 {
     if cell % 4 == 3 {
         push_latch(text, draws, cells, cell)

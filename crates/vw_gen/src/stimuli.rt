@@ -1,6 +1,6 @@
 //! Generated stimuli.
 ghost use Rattle.std.specs.Prelude.{◌≡◌, ◌≤◌, ◌++◌, ◌∷◌, [], IfOk, OnOk};
-ghost use Rattle.vw_gen.specs.Draws.{state_after};
+ghost use Rattle.vw_gen.specs.Draws.{drawn_state};
 ghost use Rattle.vw_gen.specs.Stimulus.{drawn_bits, stimulus_text};
 
 use crate::draws::Draws;
@@ -10,7 +10,7 @@ use std::alloc::{AllocError, Global};
 fn push_bits(text: &mut Vec<u8>, draws: &mut Draws) -> Result<(), AllocError>
     ensures text { OnOk result (text.new.items
         ≡ text.old.items ++ (drawn_bits draws.old 0 ++ 10 ∷ [])) }
-    ensures draws { OnOk result (draws.new ≡ state_after draws.old 8) }
+    ensures draws { OnOk result (draws.new ≡ drawn_state draws.old 8) }
 {
     for _column in 0..8u32 {
         text.push(b'0' + draws.draw(2) as u8)?;

@@ -22,10 +22,10 @@ use Rattle.vw_plan.proofs.HopLinks.{hop_facts}
 use Rattle.vw_plan.proofs.NeededWires.{own_pair}
 use Rattle.vw_plan.proofs.WireEnds.{last_hop}
 use Rattle.vw_hardware.specs.Driven.{IsDriven, by_column, by_item, count_before, rank}
-use Rattle.vw_hardware.specs.Items.{stage}
+use Rattle.vw_hardware.specs.Items.{ring_stage}
 use Rattle.vw_hardware.specs.Locals.{Local, caught, column, coming, drives, gate, held, kept, moment, register, table}
 use Rattle.vw_hardware.specs.Names.{brought_name, name_at, own_name}
-use Rattle.vw_hardware.specs.Tables.{cover_table, marks_of, off_table}
+use Rattle.vw_hardware.specs.Tables.{cover_table, cover_marks, off_table}
 use Rattle.vw_hardware.proofs.Clocks.{cell_chip}
 use Rattle.vw_hardware.proofs.Firsts.{brought_by_first}
 use Rattle.vw_hardware.proofs.Members.{has_catch_register, has_first_stage, has_gate, has_latch_register, has_stage}
@@ -84,7 +84,7 @@ module _ (planned : PlannedBoard) (sound : IsSound planned) where
 
   pub stage_driven : (node microcycle : ℕ) → node ≤ planned.board.chips → microcycle ≤ planned.plan.period → IsDriven planned node (moment microcycle)
   stage_driven node zero among small = by_item (register (moment planned.plan.period) (moment 0) StartsAtOne) (has_first_stage planned node among) refl
-  stage_driven node (suc before) among small = by_item (stage before) (has_stage planned node among before (omega (arith, small))) refl
+  stage_driven node (suc before) among small = by_item (ring_stage before) (has_stage planned node among before (omega (arith, small))) refl
 
   pub held_driven : (wire place : ℕ) (is : Wire) (hop : Hop) → slice_get planned.plan.wires wire ≡ Some is → slice_get is.hops place ≡ Some hop → (hop.to ≤ planned.board.chips) × IsDriven planned hop.to (held wire place)
   held_driven wire place is hop there stands =
@@ -96,7 +96,7 @@ module _ (planned : PlannedBoard) (sound : IsSound planned) where
 
   pub drives_gate : (ins : List Local) (out : Local) (cover : Cover) → drives (cover_table ins out cover) ≡ out
   drives_gate ins out cover = by cover.on cover.inputs cover.rows where
-    by : (on : Bool) (inputs : ℕ) (rows : List Row) → drives (cond on (table ins out true (marks_of rows)) (off_table ins out inputs rows)) ≡ out
+    by : (on : Bool) (inputs : ℕ) (rows : List Row) → drives (cond on (table ins out true (cover_marks rows)) (off_table ins out inputs rows)) ≡ out
     by true inputs rows = refl
     by false inputs [] = refl
     by false inputs (row ∷ rows) = refl

@@ -12,7 +12,7 @@ use Rattle.vw_plan.specs.PlannedBoard.{PlannedBoard}
 use Rattle.vw_plan.specs.declared.link.Link.{Link}
 use Rattle.vw_plan.specs.declared.wire.Hop.{Hop}
 use Rattle.vw_plan.specs.declared.wire.Wire.{Wire}
-use Rattle.vw_hardware.specs.Items.{User, catch_items, cell_items, delay_item, gate_items, hop_items, hops_to, late_name, latch_items, link_items, node_items, pin_items, pins_from, results, send_item, sequencer, stage, users, wire_items}
+use Rattle.vw_hardware.specs.Items.{User, catch_items, cell_items, delay_item, gate_items, hop_items, hops_to, late_name, latch_items, link_items, node_items, pin_items, pins_from, results, send_item, sequencer, ring_stage, users, wire_items}
 use Rattle.vw_hardware.specs.Locals.{Local, LocalItem, caught, coming, gate, held, kept, moment, pin_in, pin_out, register, result, table}
 use Rattle.vw_hardware.specs.Names.{name_at}
 use Rattle.vw_hardware.specs.Run.{IsItem}
@@ -62,10 +62,10 @@ module _ (planned : PlannedBoard) (node : ℕ) (among : node ≤ planned.board.c
   pub has_first_stage : IsItem planned node (register (moment planned.plan.period) (moment 0) StartsAtOne)
   has_first_stage = in_stages (register (moment planned.plan.period) (moment 0) StartsAtOne) (0, refl)
 
-  pub has_stage : (before : ℕ) → before < planned.plan.period → IsItem planned node (stage before)
+  pub has_stage : (before : ℕ) → before < planned.plan.period → IsItem planned node (ring_stage before)
   has_stage before below =
-      let stands = has_gather (stage before) (λ one. stage one ∷ []) planned.plan.period before below (0, refl) in
-      in_stages (stage before) (suc stands.0, stands.1)
+      let stands = has_gather (ring_stage before) (λ one. ring_stage one ∷ []) planned.plan.period before below (0, refl) in
+      in_stages (ring_stage before) (suc stands.0, stands.1)
 
   -- ---- cells
 

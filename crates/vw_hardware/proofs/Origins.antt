@@ -13,7 +13,7 @@ use Rattle.vw_plan.specs.PlannedBoard.{PlannedBoard}
 use Rattle.vw_plan.specs.declared.link.Link.{Link}
 use Rattle.vw_plan.specs.declared.wire.Hop.{Hop}
 use Rattle.vw_plan.specs.declared.wire.Wire.{Wire}
-use Rattle.vw_hardware.specs.Items.{User, catch_items, cell_items, delay_item, gate_items, hop_items, hops_to, late_name, latch_items, link_items, node_items, pin_items, pins_from, results, send_item, sequencer, stage, users, wire_items}
+use Rattle.vw_hardware.specs.Items.{User, catch_items, cell_items, delay_item, gate_items, hop_items, hops_to, late_name, latch_items, link_items, node_items, pin_items, pins_from, results, send_item, sequencer, ring_stage, users, wire_items}
 use Rattle.vw_hardware.specs.Locals.{LocalItem, caught, coming, gate, held, kept, moment, pin_in, pin_out, register, result, table}
 use Rattle.vw_hardware.specs.Names.{name_at}
 use Rattle.vw_hardware.specs.Tables.{choice, cover_table, pass}
@@ -36,7 +36,7 @@ module _ {X : Type 0} where
   either one other x stands = either_at one other x stands.0 stands.1
 
 module _ (planned : PlannedBoard) (node : ℕ) where
-  -- ---- a stage
+  -- ---- a ring_stage
 
   abbrev pub first_stage : LocalItem
   first_stage = register (moment planned.plan.period) (moment 0) StartsAtOne
@@ -44,14 +44,14 @@ module _ (planned : PlannedBoard) (node : ℕ) where
   pub record IsStage (item : LocalItem) : Type 0 where
     pub before : ℕ
     pub below : before < planned.plan.period
-    pub same : stage before ≡ item
+    pub same : ring_stage before ≡ item
 
   pub from_stages : (item : LocalItem) → StandsIn item (sequencer planned.plan.period) → (first_stage ≡ item) ⊎ IsStage item
   from_stages item stands = by stands.0 stands.1 where
-    others : StandsIn item (gather (λ before. stage before ∷ []) planned.plan.period) → IsStage item
+    others : StandsIn item (gather (λ before. ring_stage before ∷ []) planned.plan.period) → IsStage item
     others there =
-        let given = from_gather item (λ before. stage before ∷ []) planned.plan.period there in
-        record { before = given.number; below = given.below; same = only (stage given.number) item given.stands }
+        let given = from_gather item (λ before. ring_stage before ∷ []) planned.plan.period there in
+        record { before = given.number; below = given.below; same = only (ring_stage given.number) item given.stands }
 
     by : (place : ℕ) → slice_get (sequencer planned.plan.period) place ≡ Some item → (first_stage ≡ item) ⊎ IsStage item
     by zero at = inl (same_Some first_stage item at)

@@ -8,7 +8,7 @@ use Rattle.vw_net.specs.declared.cover.Mark.{Mark}
 use Rattle.vw_net.specs.declared.cover.Mark.TheVariants.{Any}
 use Rattle.vw_net.specs.declared.cover.Row.{Row}
 use Rattle.vw_hardware.specs.Locals.{Local, LocalItem, table}
-use Rattle.vw_hardware.specs.Tables.{both, both_or, choice, cover_table, marks_of, off_table, pass, table_value}
+use Rattle.vw_hardware.specs.Tables.{both, both_or, choice, cover_table, cover_marks, off_table, pass, table_value}
 
 -- ---- tables with few inputs
 
@@ -45,7 +45,7 @@ any_row (suc inputs) [] long = absurd (omega (arith, long))
 any_row (suc inputs) (bit ∷ bits) long = any_row inputs bits (omega (arith, long))
 
 -- rows match as their marks do
-same_rows : (bits : List Bool) (rows : List Row) → list_any (λ marks. row_matches marks bits) (marks_of rows) ≡ list_any (λ row. row_matches row.marks bits) rows
+same_rows : (bits : List Bool) (rows : List Row) → list_any (λ marks. row_matches marks bits) (cover_marks rows) ≡ list_any (λ row. row_matches row.marks bits) rows
 same_rows bits [] = refl
 same_rows bits (row ∷ rows) = ap (λ (found : Bool). row_matches row.marks bits || found) (same_rows bits rows)
 
@@ -54,8 +54,8 @@ pub cover_says : (Has : LocalItem → Type 0) (ins : List Local) (out : Local) (
     → ((on : Bool) (marks : List (List Mark)) → Has (table ins out on marks) → bit ≡ table_value on marks bits)
     → length bits ≡ cover.inputs → Has (cover_table ins out cover) → bit ≡ cover_value cover bits
 cover_says Has ins out cover bits bit says long has = by cover.on cover.inputs cover.rows long has where
-  by : (on : Bool) (inputs : ℕ) (rows : List Row) → length bits ≡ inputs → Has (cond on (table ins out true (marks_of rows)) (off_table ins out inputs rows))
+  by : (on : Bool) (inputs : ℕ) (rows : List Row) → length bits ≡ inputs → Has (cond on (table ins out true (cover_marks rows)) (off_table ins out inputs rows))
       → bit ≡ cond (list_any (λ row. row_matches row.marks bits) rows) on (not on)
-  by true inputs rows long has = says true (marks_of rows) has ∙ ap (λ (found : Bool). cond found true false) (same_rows bits rows)
+  by true inputs rows long has = says true (cover_marks rows) has ∙ ap (λ (found : Bool). cond found true false) (same_rows bits rows)
   by false inputs [] long has = says true (replicate inputs Any ∷ []) has ∙ ap (λ (found : Bool). cond (found || false) true false) (any_row inputs bits long)
-  by false inputs (row ∷ rows) long has = says false (marks_of (row ∷ rows)) has ∙ ap (λ (found : Bool). cond found false true) (same_rows bits (row ∷ rows))
+  by false inputs (row ∷ rows) long has = says false (cover_marks (row ∷ rows)) has ∙ ap (λ (found : Bool). cond found false true) (same_rows bits (row ∷ rows))

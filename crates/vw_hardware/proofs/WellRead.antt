@@ -1,4 +1,4 @@
--- What each item of an emitted board reads is driven at its node, and has a smaller rank than what a table drives.
+-- What each item of an emitted board locals_read is driven at its node, and has a smaller rank than what a table drives.
 use Rattle.std.proofs.Common.{◌≡◌, ◌<◌, ◌≤◌, ◌+◌, ◌-◌, ◌&&◌, ◌==◌, ◌∙◌, inl, ℕ, zero, suc, Bool, true, false, cond, List, [], ◌∷◌, length, map, replicate, get_or, slice_get, Some, eqb, ap, refl, sym, subst, ⊎_elim, eqb-true, eq-eqb, arith}
 use Rattle.std.specs.List.{AllByRecursion}
 use Rattle.std.proofs.lemmas.Bool.{and_from, and_parts}
@@ -24,10 +24,10 @@ use Rattle.vw_plan.proofs.NeededWires.{output_own_or_brought, wires_fine}
 use Rattle.vw_plan.proofs.WireEnds.{hop_before}
 use Rattle.vw_hardware.specs.Driven.{IsDriven, by_item, by_pin, rank}
 use Rattle.vw_hardware.specs.Items.{User, delay_item, late_name, leaves_by, send_item, users}
-use Rattle.vw_hardware.specs.Locals.{Local, LocalItem, caught, coming, drives, gate, held, kept, reads, register, sent, table}
+use Rattle.vw_hardware.specs.Locals.{Local, LocalItem, caught, coming, drives, gate, held, kept, locals_read, register, sent, table}
 use Rattle.vw_hardware.specs.Run.{IsItem}
 use Rattle.vw_hardware.specs.Names.{name_at, sent_name}
-use Rattle.vw_hardware.specs.Tables.{cover_table, marks_of, off_table}
+use Rattle.vw_hardware.specs.Tables.{cover_table, cover_marks, off_table}
 use Rattle.vw_hardware.proofs.DrivenNets.{gate_rank, held_driven, name_driven, name_rank, stage_driven}
 use Rattle.vw_hardware.proofs.FewUsers.{few_users}
 use Rattle.vw_hardware.proofs.Members.{has_catch_table, has_delay, has_latch_register, has_latch_table, has_send}
@@ -44,10 +44,10 @@ pub record IsTable (ins : List Local) (out : Local) (item : LocalItem) : Type 0 
 
 pub gate_is_table : (ins : List Local) (out : Local) (cover : Cover) → IsTable ins out (cover_table ins out cover)
 gate_is_table ins out cover = by cover.on cover.inputs cover.rows where
-  by : (on : Bool) (inputs : ℕ) (rows : List Row) → IsTable ins out (cond on (table ins out true (marks_of rows)) (off_table ins out inputs rows))
-  by true inputs rows = record { on = true; marks = marks_of rows; same = refl }
+  by : (on : Bool) (inputs : ℕ) (rows : List Row) → IsTable ins out (cond on (table ins out true (cover_marks rows)) (off_table ins out inputs rows))
+  by true inputs rows = record { on = true; marks = cover_marks rows; same = refl }
   by false inputs [] = record { on = true; marks = replicate inputs Any ∷ []; same = refl }
-  by false inputs (row ∷ rows) = record { on = false; marks = marks_of (row ∷ rows); same = refl }
+  by false inputs (row ∷ rows) = record { on = false; marks = cover_marks (row ∷ rows); same = refl }
 
 -- a hop leaves by its own link and pin in its own microcycle
 own_leaves : (hop : Hop) (link : Link) → carries hop link ≡ true → leaves_by link hop.pin hop.at hop ≡ true
@@ -63,12 +63,12 @@ module _ (planned : PlannedBoard) (sound : IsSound planned) (node : ℕ) (among 
   Rises (table ins out on rows) read = rank planned read < rank planned out
   Rises (register next own init) read = Unit {0}
 
-  -- an item reads well what is driven and of a smaller rank
+  -- an item locals_read well what is driven and of a smaller rank
   abbrev pub ReadsWell : LocalItem → Local → Type 0
   ReadsWell item read = IsDriven planned node read × Rises item read
 
   abbrev pub IsWellRead : LocalItem → Type 0
-  IsWellRead item = AllByRecursion (ReadsWell item) (reads item)
+  IsWellRead item = AllByRecursion (ReadsWell item) (locals_read item)
 
   of_a_gate : (item : LocalItem) → IsGate planned node item → IsWellRead item
   of_a_gate item is =
@@ -197,9 +197,9 @@ all_at P [] all place x at = absurd (none-some x at)
 all_at P (y ∷ xs) all zero x at = subst P (same_Some y x at) all.0
 all_at P (y ∷ xs) all (suc place) x at = all_at P xs all.1 place x at
 
-module _ (planned : PlannedBoard) (node place : ℕ) (item : LocalItem) (read : Local) (sound : IsSound planned) (is : IsItem planned node item) (at : slice_get (reads item) place ≡ Some read) where
+module _ (planned : PlannedBoard) (node place : ℕ) (item : LocalItem) (read : Local) (sound : IsSound planned) (is : IsItem planned node item) (at : slice_get (locals_read item) place ≡ Some read) where
   reads_well : ReadsWell planned sound node is.among item read
-  reads_well = all_at (ReadsWell planned sound node is.among item) (reads item) (well_read planned sound node is.among item (origin planned node item (is.place, is.stands))) place read at
+  reads_well = all_at (ReadsWell planned sound node is.among item) (locals_read item) (well_read planned sound node is.among item (origin planned node item (is.place, is.stands))) place read at
 
   pub read_driven : IsDriven planned node read
   read_driven = reads_well.0

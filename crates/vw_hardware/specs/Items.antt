@@ -13,13 +13,13 @@ use Rattle.vw_hardware.specs.Locals.{Local, LocalItem, caught, coming, delayed, 
 use Rattle.vw_hardware.specs.Names.{name_at, sent_name}
 use Rattle.vw_hardware.specs.Tables.{both, both_or, choice, cover_table, pass}
 
--- ---- the sequencer: a stage for each microcycle from 0 to the period, in a ring, and the first one starts at 1
+-- ---- the sequencer: a ring_stage for each microcycle from 0 to the period, in a ring, and the first one starts at 1
 
-abbrev pub stage : ℕ → LocalItem
-stage before = register (moment before) (moment (suc before)) StartsAtZero
+abbrev pub ring_stage : ℕ → LocalItem
+ring_stage before = register (moment before) (moment (suc before)) StartsAtZero
 
 abbrev pub sequencer : ℕ → List LocalItem
-sequencer period = register (moment period) (moment 0) StartsAtOne ∷ gather (λ before. stage before ∷ []) period
+sequencer period = register (moment period) (moment 0) StartsAtOne ∷ gather (λ before. ring_stage before ∷ []) period
 
 -- ---- cells
 

@@ -32,11 +32,11 @@ pub data LocalItem : Type 0 where
   table : (ins : List Local) (out : Local) (on : Bool) (rows : List (List Mark)) → LocalItem
   register : (next own : Local) (init : Init) → LocalItem
 
--- what an item drives, and what it reads
+-- what an item drives, and what it locals_read
 abbrev pub drives : LocalItem → Local
 drives (table ins out on rows) = out
 drives (register next own init) = own
 
-abbrev pub reads : LocalItem → List Local
-reads (table ins out on rows) = ins
-reads (register next own init) = next ∷ []
+abbrev pub locals_read : LocalItem → List Local
+locals_read (table ins out on rows) = ins
+locals_read (register next own init) = next ∷ []

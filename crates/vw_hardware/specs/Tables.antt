@@ -32,15 +32,15 @@ both_or = (One ∷ One ∷ Any ∷ []) ∷ (Any ∷ Any ∷ One ∷ []) ∷ []
 
 -- ---- the table of a gate
 
-abbrev pub marks_of : List Row → List (List Mark)
-marks_of rows = map (λ row. row.marks) rows
+abbrev pub cover_marks : List Row → List (List Mark)
+cover_marks rows = map (λ row. row.marks) rows
 
 -- one with an off-set; without rows it is always 1, and has one row that any bits match
 abbrev pub off_table : List Local → Local → ℕ → List Row → LocalItem
 off_table ins out inputs [] = table ins out true (replicate inputs Any ∷ [])
-off_table ins out inputs (row ∷ rows) = table ins out false (marks_of (row ∷ rows))
+off_table ins out inputs (row ∷ rows) = table ins out false (cover_marks (row ∷ rows))
 
 -- over these nets, by a cover
 abbrev pub cover_table : List Local → Local → Cover → LocalItem
 cover_table ins out cover =
-    if cover.on then table ins out true (marks_of cover.rows) else off_table ins out cover.inputs cover.rows
+    if cover.on then table ins out true (cover_marks cover.rows) else off_table ins out cover.inputs cover.rows

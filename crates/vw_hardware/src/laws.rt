@@ -11,7 +11,7 @@ ghost use Rattle.vw_plan.specs.declared.link.Link.{Link};
 ghost use Rattle.vw_plan.specs.declared.wire.Hop.{Hop};
 ghost use Rattle.vw_plan.specs.declared.wire.Wire.{Wire};
 ghost use Rattle.vw_hardware.specs.Driven.{IsDriven, rank};
-ghost use Rattle.vw_hardware.specs.Locals.{Local, LocalItem, delayed, held, moment, reads, table};
+ghost use Rattle.vw_hardware.specs.Locals.{Local, LocalItem, delayed, held, moment, locals_read, table};
 ghost use Rattle.vw_hardware.specs.Names.{name_at};
 ghost use Rattle.vw_hardware.specs.Run.{IsItem, IsRun, Values};
 ghost use Rattle.vw_hardware.specs.Shown.{IsClockOf, IsThere, at_each_clock, held_rows, microclock};
@@ -76,7 +76,7 @@ pub fn hops_carry_their_nets()
 /// what a table reads has a smaller rank than what it drives, so that no table rests on itself within a microclock.
 pub fn items_read_what_is_driven()
     ensures driven { (planned : PlannedBoard) (node place : ℕ) (item : LocalItem) (read : Local)
-        → IsSound planned → IsItem planned node item → slice_get (reads item) place ≡ Some read
+        → IsSound planned → IsItem planned node item → slice_get (locals_read item) place ≡ Some read
         → IsDriven planned node read }
     ensures rises { (planned : PlannedBoard) (node place : ℕ) (ins : List Local) (out : Local)
         (on : Bool) (rows : List (List Mark)) (read : Local) → IsSound planned

@@ -7,7 +7,7 @@ use Rattle.vw_design.proofs.ModelNumbers.{root_model}
 use Rattle.vw_instances.specs.declared.tables.ListedInstance.{ListedInstance}
 use Rattle.vw_instances.specs.declared.tables.CellSite.{CellSite}
 use Rattle.vw_instances.specs.declared.frame.Frame.{Frame}
-use Rattle.vw_instances.specs.Tables.{AreNumbered, StandsAt, IsEntryAt, IsCellSite, ArePlaced, AreCellSites}
+use Rattle.vw_instances.specs.Tables.{AreNumbered, StandsBehind, IsEntryAt, IsCellSite, ArePlaced, AreCellSites}
 use Rattle.vw_instances.specs.Steps.Frames.{FrameLevel, sites_left, listed_with, cells_among, IsFrame, IsPartlyListed}
 use Rattle.vw_instances.proofs.GrownLists.{none_numbered, more_numbered}
 use Rattle.vw_instances.proofs.SitesLeft.{level_of, sites_start}
@@ -21,7 +21,7 @@ module _ (design : Design) where
       let first : Frame = record { instance = 0; model = 0; item = 0; before = 0 } in
       let level = level_of [] [] root.0.items in
       let all : sites design ≡ sites_below design (65 + length design.models - 0) [] = ap (λ (depth : ℕ). sites_below design depth []) (omega arith) in
-      let at : StandsAt design [] 0 0 = record {
+      let at : StandsBehind design [] 0 0 = record {
         before = [];
         after = [];
         split = all ∙ sym (append-nil (sites_below design (65 + length design.models - 0) []));

@@ -16,7 +16,7 @@ use Rattle.vw_design.proofs.Weights.{instances_weigh, cells_weigh}
 use Rattle.vw_instances.specs.declared.tables.ListedInstance.{ListedInstance}
 use Rattle.vw_instances.specs.declared.tables.CellSite.{CellSite}
 use Rattle.vw_instances.specs.declared.frame.Frame.{Frame}
-use Rattle.vw_instances.specs.Tables.{AreNumbered, IsPlacedBy, StandsAt, IsEntryAt, IsCellSite}
+use Rattle.vw_instances.specs.Tables.{AreNumbered, IsPlacedBy, StandsBehind, IsEntryAt, IsCellSite}
 use Rattle.vw_instances.specs.Steps.Frames.{FrameLevel, sites_left, listed_with, cells_among, IsFrame, entered, behind_item, site_of_frame, placed_in_frame, IsPartlyListed}
 use Rattle.vw_design.proofs.ListPlaces.{in_front, behind}
 use Rattle.vw_design.proofs.PairedLists.{AllZip-length, AllZip-wider, AllZip-push}
@@ -164,7 +164,7 @@ module _ (design : Design) (table : List ListedInstance) (made : List CellSite) 
         ap (λ (list : List Site). more_done ++ (list ++ others)) (sym (is.within ∙ levelled)) ∙ all_more in
         let count : length (listed_with more_done) ≡ length (listed_with walk.done) + 1 =
         ap (λ (list : List Path). length list) listed ∙ length-append (listed_with walk.done) (here ∷ []) in
-        let at : StandsAt design here (length made) (length (listed_with walk.done)) = record {
+        let at : StandsBehind design here (length made) (length (listed_with walk.done)) = record {
           before = more_done;
           after = others;
           split = sym whole;

@@ -29,7 +29,7 @@ IsJustBehind (place ∷ path) before =
 
 -- where the items of an instance stand among all sites: so many cells stand before them, and so many instances are
 -- placed before them, its own placing counted
-pub record StandsAt (design : Design) (path : Path) (cells number : ℕ) : Type 0 where
+pub record StandsBehind (design : Design) (path : Path) (cells number : ℕ) : Type 0 where
   pub before : List Site
   pub after : List Site
   pub split : sites design ≡ before ++ (sites_below design (65 + length design.models - length path) path ++ after)
@@ -43,7 +43,7 @@ pub record IsEntryAt (design : Design) (listed : List Path) (number : ℕ) (path
   pub stands : model_at design path ≡ Some model
   pub model_is : slice_get design.models entry.model ≡ Some model
   pub by : IsPlacedBy listed number path entry.parent entry.place
-  pub at : StandsAt design path entry.cells number
+  pub at : StandsBehind design path entry.cells number
 
 -- the entries of all instances, in preorder
 abbrev pub ArePlaced : Design → List ListedInstance → Type 0

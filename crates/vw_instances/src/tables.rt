@@ -11,7 +11,7 @@ pub struct ListedInstance {
     pub parent: u32,
     /// Its place there: the number, from 1, of the `.subckt` item; 0 for the root.
     pub place: u32,
-    /// How many cells stand before its first item.
+    /// How many cells stand before its first item, or before the item that places it where it has none.
     pub cells: u32,
 }
 

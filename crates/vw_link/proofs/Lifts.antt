@@ -5,7 +5,7 @@ use Rattle.std.specs.declared.alloc.Global.{Global}
 use Rattle.vw_prog.specs.declared.word.Word.{Word}
 use Rattle.vw_link.specs.declared.chain.Piece.{Piece}
 use Rattle.vw_link.specs.declared.chain.Chain.TheViews.{Hung}
-use Rattle.vw_link.specs.Chains.{IsNear, IsOlder, IsPassed, Lift, lifts_of, newest, words_of}
+use Rattle.vw_link.specs.Chains.{IsNear, IsOlder, IsPassed, Lift, lifts_of, newest, lift_words}
 
 -- a chain with a piece in front
 pub hung : (piece : Box Piece Global) → lifts_of (Hung piece) ≡ record { link = piece.value.link; words = piece.value.words.items } ∷ lifts_of piece.value.older
@@ -20,11 +20,11 @@ nth_left (x ∷ xs) ys (suc k) below = nth_left xs ys k (omega (arith, below))
 abbrev own : ℕ → Lift → List Word
 own link lift = if link == lift.link then lift.words else []
 
-words_are : (link : ℕ) (lift : Lift) (older : List Lift) → words_of link (lift ∷ older) ≡ words_of link older ++ own link lift
+words_are : (link : ℕ) (lift : Lift) (older : List Lift) → lift_words link (lift ∷ older) ≡ lift_words link older ++ own link lift
 words_are link lift older = by (link == lift.link) where
-  by : (same : Bool) → (if same then words_of link older ++ lift.words else words_of link older) ≡ words_of link older ++ (if same then lift.words else [])
+  by : (same : Bool) → (if same then lift_words link older ++ lift.words else lift_words link older) ≡ lift_words link older ++ (if same then lift.words else [])
   by true = refl
-  by false = sym (append-nil (words_of link older))
+  by false = sym (append-nil (lift_words link older))
 
 own_count : (link : ℕ) (lift : Lift) (older : List Lift) → newest link (lift ∷ older) ≡ length (own link lift)
 own_count link lift older = by (link == lift.link) where
@@ -32,8 +32,8 @@ own_count link lift older = by (link == lift.link) where
   by true = refl
   by false = refl
 
-count_is : (link : ℕ) (lift : Lift) (older : List Lift) → length (words_of link (lift ∷ older)) ≡ length (words_of link older) + newest link (lift ∷ older)
-count_is link lift older = omega (arith, ap (λ (words : List Word). length words) (words_are link lift older), length-append (words_of link older) (own link lift), own_count link lift older)
+count_is : (link : ℕ) (lift : Lift) (older : List Lift) → length (lift_words link (lift ∷ older)) ≡ length (lift_words link older) + newest link (lift ∷ older)
+count_is link lift older = omega (arith, ap (λ (words : List Word). length words) (words_are link lift older), length-append (lift_words link older) (own link lift), own_count link lift older)
 
 module _ (link number : ℕ) (old : List Lift) (before : ℕ) where
   -- a newest lift whose words are all behind the number is left out
@@ -41,8 +41,8 @@ module _ (link number : ℕ) (old : List Lift) (before : ℕ) where
   left_out lift older counted is behind = record {
     count = λ rest whole. omega (arith, is.count rest whole, count_is link lift older, behind);
     same = λ rest whole.
-        let here : number < length (words_of link older) = omega (arith, is.count rest whole, count_is link lift older, behind) in
-        sym (ap (λ (words : List Word). slice_get words number) (words_are link lift older) ∙ nth_left (words_of link older) (own link lift) number here) ∙ is.same rest whole;
+        let here : number < length (lift_words link older) = omega (arith, is.count rest whole, count_is link lift older, behind) in
+        sym (ap (λ (words : List Word). slice_get words number) (words_are link lift older) ∙ nth_left (lift_words link older) (own link lift) number here) ∙ is.same rest whole;
   }
 
   -- one of which some words aren't is the last that is looked at
@@ -88,14 +88,14 @@ on_ended link number old before lifts counted is none =
     subst (λ (all : List Lift). IsPassed link number old before all counted) (sym none) (ended link number old before counted (subst (λ (all : List Lift). IsOlder link number old before all counted) none is))
 
 -- one more piece was counted, and newest ones were left out
-pub counted_on : (link number : ℕ) (from rest new : List Lift) (counted now : ℕ) (piece its next : Piece) (own_words : ℕ) → IsNear link number (length (words_of link rest)) from counted
+pub counted_on : (link number : ℕ) (from rest new : List Lift) (counted now : ℕ) (piece its next : Piece) (own_words : ℕ) → IsNear link number (length (lift_words link rest)) from counted
     → rest ≡ record { link = piece.link; words = piece.words.items } ∷ lifts_of piece.older → its ≡ piece → next ≡ piece
     → own_words ≡ (if link == its.link then length its.words.items else 0) → IsPassed link number from (counted + own_words) new now
-    → IsNear link number (length (words_of link (lifts_of next.older))) new now × (slice_get (words_of link new) number ≡ slice_get (words_of link from) number)
+    → IsNear link number (length (lift_words link (lifts_of next.older))) new now × (slice_get (lift_words link new) number ≡ slice_get (lift_words link from) number)
 counted_on link number from rest new counted now piece its next own_words near split its_is next_is own_is passed =
     let lift : Lift = record { link = piece.link; words = piece.words.items } in
     let mine : own_words ≡ newest link (lift ∷ lifts_of piece.older) = own_is ∙ ap (λ (one : Piece). if link == one.link then length one.words.items else 0) its_is in
-    let all : length (words_of link rest) ≡ length (words_of link (lift ∷ lifts_of piece.older)) = ap (λ (lifts : List Lift). length (words_of link lifts)) split in
-    let left : length (words_of link (lifts_of next.older)) ≡ length (words_of link (lifts_of piece.older)) = ap (λ (one : Piece). length (words_of link (lifts_of one.older))) next_is in
-    let whole : length (words_of link from) ≡ (counted + own_words) + length (words_of link (lifts_of next.older)) = omega (arith, near.count, all, left, mine, count_is link lift (lifts_of piece.older)) in
-    (passed.near (length (words_of link (lifts_of next.older))) whole, passed.same (length (words_of link (lifts_of next.older))) whole)
+    let all : length (lift_words link rest) ≡ length (lift_words link (lift ∷ lifts_of piece.older)) = ap (λ (lifts : List Lift). length (lift_words link lifts)) split in
+    let left : length (lift_words link (lifts_of next.older)) ≡ length (lift_words link (lifts_of piece.older)) = ap (λ (one : Piece). length (lift_words link (lifts_of one.older))) next_is in
+    let whole : length (lift_words link from) ≡ (counted + own_words) + length (lift_words link (lifts_of next.older)) = omega (arith, near.count, all, left, mine, count_is link lift (lifts_of piece.older)) in
+    (passed.near (length (lift_words link (lifts_of next.older))) whole, passed.same (length (lift_words link (lifts_of next.older))) whole)

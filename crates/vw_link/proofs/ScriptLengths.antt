@@ -22,7 +22,7 @@ use Rattle.vw_leads.proofs.LinkPlaces.{link_leads}
 use Rattle.vw_prog.specs.declared.entry.Entry.{Entry}
 use Rattle.vw_prog.specs.declared.job.Job.{Job}
 use Rattle.vw_prog.specs.Scripts.{planned_of, script, script_before, word_at}
-use Rattle.vw_prog.specs.Timetable.{comes_before, entries, gate_entries, gate_entry, hop_entries, is_sending, is_sent, link_place, passes, sent_entry, taken_entry, timetable, wire_entries}
+use Rattle.vw_prog.specs.Timetable.{comes_before, entries, gate_entries, gate_entry, hop_entries, is_sending, is_sent, link_of_hop, passes, sent_entry, taken_entry, timetable, wire_entries}
 use Rattle.vw_prog.proofs.LinkPasses.{found_link, place_carries, turn_of}
 use Rattle.vw_link.specs.Counts.{hops_over, over}
 
@@ -56,26 +56,26 @@ module _ (planned : PlannedBoard) (sound : IsSound planned) (number : ℕ) (link
   links = planned.board.links
 
   -- the place of a hop is that of a link
-  place_within : (hop : Hop) → has_pin links hop ≡ true → link_place links hop < length links
+  place_within : (hop : Hop) → has_pin links hop ≡ true → link_of_hop links hop < length links
   place_within hop has = by (link_number links hop.from hop.to) (link_leads links hop.from hop.to) where
     by : (found : Option ℕ) → LeadsTo (joins hop.from hop.to) links found → unwrap_or found 0 < length links
     by None leads = absurd (found_link hop links has leads)
     by (Some place) leads = leads.0
 
   -- and of the link that it goes over
-  its_place : (hop : Hop) → has_pin links hop ≡ true → over link hop ≡ true → link_place links hop ≡ number
+  its_place : (hop : Hop) → has_pin links hop ≡ true → over link hop ≡ true → link_of_hop links hop ≡ number
   its_place hop has goes =
-      let other = get_or links (link_place links hop) link in
-      let at : slice_get links (link_place links hop) ≡ Some other = slice_get-get_or links (link_place links hop) link (place_within hop has) in
+      let other = get_or links (link_of_hop links hop) link in
+      let at : slice_get links (link_of_hop links hop) ≡ Some other = slice_get-get_or links (link_of_hop links hop) link (place_within hop has) in
       let own = and_parts (eqb link.from hop.from) (eqb link.to hop.to) goes in
       let its = and_parts (eqb other.from hop.from) (eqb other.to hop.to) (place_carries links hop other has at) in
       let ends : HaveSameEnds link other = (eqb-true link.from hop.from own.0 ∙ sym (eqb-true other.from hop.from its.0), eqb-true link.to hop.to own.1 ∙ sym (eqb-true other.to hop.to its.1)) in
-      sym (one_number planned.board number (link_place links hop) link other there at ends)
+      sym (one_number planned.board number (link_of_hop links hop) link other there at ends)
 
   sent_over : (net : ℕ) (hop : Hop) → has_pin links hop ≡ true → one_if (is_sent number (sent_entry links net hop)) ≡ one_if (over link hop)
   sent_over net hop has = same_from (is_sent number (sent_entry links net hop)) (over link hop)
-      (λ sent. place_carries links hop link has (ap (slice_get links) (eqb-true (link_place links hop) number (and_parts (is_sending (sent_entry links net hop)) (eqb (link_place links hop) number) sent).1) ∙ there))
-      (λ goes. let turn : (3 * hop.at + 1) % 3 ≡ 1 = omega arith in and_from (is_sending (sent_entry links net hop)) (eqb (link_place links hop) number) (eq-eqb ((3 * hop.at + 1) % 3) 1 turn) (eq-eqb (link_place links hop) number (its_place hop has goes)))
+      (λ sent. place_carries links hop link has (ap (slice_get links) (eqb-true (link_of_hop links hop) number (and_parts (is_sending (sent_entry links net hop)) (eqb (link_of_hop links hop) number) sent).1) ∙ there))
+      (λ goes. let turn : (3 * hop.at + 1) % 3 ≡ 1 = omega arith in and_from (is_sending (sent_entry links net hop)) (eqb (link_of_hop links hop) number) (eq-eqb ((3 * hop.at + 1) % 3) 1 turn) (eq-eqb (link_of_hop links hop) number (its_place hop has goes)))
 
   not_sent : (entry : Entry) → is_sending entry ≡ false → one_if (is_sent number entry) ≡ 0
   not_sent entry apart = ap (λ (kind : Bool). one_if (kind && eqb entry.link number)) apart

@@ -27,13 +27,13 @@ pub record SeenLinks : Type 0 where
   pub lifts : List Lift
 
 -- the words of a link, oldest first
-abbrev pub words_of : ℕ → List Lift → List Word
-words_of link [] = []
-words_of link (lift ∷ older) = if link == lift.link then words_of link older ++ lift.words else words_of link older
+abbrev pub lift_words : ℕ → List Lift → List Word
+lift_words link [] = []
+lift_words link (lift ∷ older) = if link == lift.link then lift_words link older ++ lift.words else lift_words link older
 
 -- what a fabric tells: nothing, or for each link its words
 abbrev pub carried_of : SeenLinks → Carried
-carried_of links = if links.keeps then Some (λ link. words_of link links.lifts) else None
+carried_of links = if links.keeps then Some (λ link. lift_words link links.lifts) else None
 
 -- ---- on the way to the word with a number. No public clause cites it
 
@@ -44,16 +44,16 @@ newest link (lift ∷ older) = if link == lift.link then length lift.words else 
 
 -- Of the words of a link in some lifts, all but the rest were counted, and no whole newest lift of them is behind the number.
 pub record IsNear (link number rest : ℕ) (lifts : List Lift) (counted : ℕ) : Type 0 where
-  pub count : length (words_of link lifts) ≡ counted + rest
+  pub count : length (lift_words link lifts) ≡ counted + rest
   pub near : counted ≤ number + newest link lifts
   pub low : counted < 2 ^ 65
 
 -- the newest lifts were left out, whose words are all behind the number
 pub record IsOlder (link number : ℕ) (old : List Lift) (before : ℕ) (new : List Lift) (counted : ℕ) : Type 0 where
-  pub count : (rest : ℕ) → length (words_of link old) ≡ before + rest → length (words_of link new) ≡ counted + rest
-  pub same : (rest : ℕ) → length (words_of link old) ≡ before + rest → slice_get (words_of link new) number ≡ slice_get (words_of link old) number
+  pub count : (rest : ℕ) → length (lift_words link old) ≡ before + rest → length (lift_words link new) ≡ counted + rest
+  pub same : (rest : ℕ) → length (lift_words link old) ≡ before + rest → slice_get (lift_words link new) number ≡ slice_get (lift_words link old) number
 
 -- and no further one can be left out
 pub record IsPassed (link number : ℕ) (old : List Lift) (before : ℕ) (new : List Lift) (counted : ℕ) : Type 0 where
-  pub near : (rest : ℕ) → length (words_of link old) ≡ before + rest → IsNear link number rest new counted
-  pub same : (rest : ℕ) → length (words_of link old) ≡ before + rest → slice_get (words_of link new) number ≡ slice_get (words_of link old) number
+  pub near : (rest : ℕ) → length (lift_words link old) ≡ before + rest → IsNear link number rest new counted
+  pub same : (rest : ℕ) → length (lift_words link old) ≡ before + rest → slice_get (lift_words link new) number ≡ slice_get (lift_words link old) number

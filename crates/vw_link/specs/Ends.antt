@@ -12,7 +12,7 @@ abbrev pub known : Pass Word View → View
 known pass = view pass
 
 -- a piece of a link has the words that were taken, and room for all others
-pub record HasTaken (link : ℕ) (pass : View) (piece : Piece) : Type 0 where
+pub record HasWordsTaken (link : ℕ) (pass : View) (piece : Piece) : Type 0 where
   pub same : piece.link ≡ link
   pub words : piece.words.items ≡ take pass.taken pass.words
   pub room : length pass.words ≤ vec_capacity piece.words
@@ -20,8 +20,8 @@ pub record HasTaken (link : ℕ) (pass : View) (piece : Piece) : Type 0 where
 -- where they are kept
 abbrev pub Keeps : ℕ → View → Option (Box Piece Global) → Type 0
 Keeps link pass None = Unit {0}
-Keeps link pass (Some piece) = HasTaken link pass piece.value
+Keeps link pass (Some piece) = HasWordsTaken link pass piece.value
 
 -- and a kept piece has room for a further word
-abbrev pub HasRoom : Option (Box Piece Global) → Type 0
-HasRoom kept = IfSome kept (λ piece. vec_len piece.value.words < vec_capacity piece.value.words)
+abbrev pub HasPieceRoom : Option (Box Piece Global) → Type 0
+HasPieceRoom kept = IfSome kept (λ piece. vec_len piece.value.words < vec_capacity piece.value.words)

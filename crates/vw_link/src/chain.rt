@@ -1,6 +1,6 @@
 //! The words that were taken from lifted links: one piece for each lift.
 ghost use Rattle.std.specs.Prelude.{◌≡◌, ◌==◌, length, slice_get, IfOk, if◌then◌else◌};
-ghost use Rattle.vw_link.specs.Chains.{IsNear, IsPassed, IsRoom, lifts_of, words_of};
+ghost use Rattle.vw_link.specs.Chains.{IsNear, IsPassed, IsRoom, lifts_of, lift_words};
 
 use std::alloc::{AllocError, Global};
 use vw_prog::Word;
@@ -86,7 +86,7 @@ fn passed(from: &Chain, counted: u128, link: u32, number: u64) -> (&Chain, u128)
 /// The word with a number, where it is in the newest piece or nowhere, and so many words are in all pieces.
 fn newest_of(from: &Chain, counted: u128, link: u32, number: u64) -> Option<Word>
     requires { IsNear link number 0 (lifts_of from.now) counted }
-    ensures { result ≡ slice_get (words_of link (lifts_of from.now)) number }
+    ensures { result ≡ slice_get (lift_words link (lifts_of from.now)) number }
 {
     let Chain::Hung(piece) = from else {
         return None;
@@ -101,7 +101,7 @@ fn newest_of(from: &Chain, counted: u128, link: u32, number: u64) -> Option<Word
 
 /// The word with a number, from 0, among those that a chain has of a link, oldest first. It takes no memory.
 pub fn word_of(chain: &Chain, link: u32, number: u64) -> Option<Word>
-    ensures { result ≡ slice_get (words_of link (lifts_of chain.now)) number }
+    ensures { result ≡ slice_get (lift_words link (lifts_of chain.now)) number }
 {
     let mut from = chain;
     let mut counted = 0;

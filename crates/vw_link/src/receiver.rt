@@ -4,7 +4,7 @@ ghost use Rattle.std.specs.Option.{IfSome, is_some};
 ghost use Rattle.std.specs.Arc.{arc_value};
 ghost use Rattle.crossbeam_queue.specs.Passes.{view, IsPassOf};
 ghost use Rattle.vw_link.specs.declared.rule.View.{View};
-ghost use Rattle.vw_link.specs.Ends.{HasRoom, Keeps};
+ghost use Rattle.vw_link.specs.Ends.{HasPieceRoom, Keeps};
 
 use crate::chain::Piece;
 use crate::rule::{Line, Take, View};
@@ -93,7 +93,7 @@ impl<R: Copy> Receiver<R> {
 
 /// Puts a word that was taken behind those that were taken before, where they are kept.
 fn keep(kept: &mut Option<Box<Piece>>, word: Word)
-    requires { HasRoom kept.old }
+    requires { HasPieceRoom kept.old }
     ensures same { is_some kept.new ≡ is_some kept.old }
     ensures kept { (link : ℕ) (pass : View) → slice_get pass.words pass.taken ≡ Some word
         → Keeps link pass kept.old → Keeps link (record pass { taken = pass.taken + 1 }) kept.new }

@@ -10,7 +10,7 @@ use Rattle.vw_design.specs.declared.model.Model.{Model}
 use Rattle.vw_design.specs.declared.design.Design.{Design}
 use Rattle.vw_net.specs.FirstFound.{first_found}
 use Rattle.vw_design.specs.Paths.{Word, model_named, is_port}
-use Rattle.vw_design.specs.ModelFaults.{NameAt, NameOf, by_placing, first_placing, reached, unknown_formal_in, unknown_formal, unbound_input_in, unbound_input, both_ways, at_model}
+use Rattle.vw_design.specs.ModelFaults.{NameAt, NameOf, by_placing, first_placing, reached, unknown_formal_in, unknown_formal, unbound_input_in, unbound_input, port_both_ways, at_model}
 use Rattle.vw_design.proofs.ModelNumbers.{name_of_named}
 use Rattle.vw_design.proofs.PairedLists.{AllZip-back}
 use Rattle.vw_net.proofs.FirstFound.{found_append}
@@ -95,7 +95,7 @@ module _ (design : Design) where
         by line binds None = refl
         by line binds (Some model) = refl
 
-    pub both_is : first_found (at_numbered design both_ways_at) all_numbered ≡ both_ways design
+    pub both_is : first_found (at_numbered design both_ways_at) all_numbered ≡ port_both_ways design
     both_is = searched both_ways_at
         (λ line name binds. option_map (λ output. record { model = name; name = output }) (at_model design (λ model. find (is_port model) model.outputs) name))
         (λ line name binds. by line name binds (model_named design.models name) refl)

@@ -17,8 +17,8 @@ use Rattle.vw_design.proofs.ModelNumbers.{place_of_model, model_of_place, named_
 use Rattle.vw_design.proofs.ReachedFromRoot.{reached_at, reached_closed, reached_least}
 use Rattle.vw_design.proofs.PairedLists.{AllZip-at, AllZip-length, AllZip-back}
 use Rattle.vw_design.proofs.ListPlaces.{at_within, list_at}
-use Rattle.vw_models.specs.Steps.Reach.{Targets, PlacesAt, AreWithin, IsClosed}
-use Rattle.vw_order.specs.Graphs.{IsWithin}
+use Rattle.vw_models.specs.Steps.Reach.{Targets, PlacesAt, AreWithin, IsClosedByPlacing}
+use Rattle.vw_order.specs.Graphs.{StaysWithin}
 use Rattle.vw_models.specs.Steps.ModelGraphs.{graph_of_models}
 use Rattle.vw_models.proofs.NumberedModels.{reached_within}
 
@@ -83,7 +83,7 @@ module _ (design : Design) where
     abbrev root : (model : Model) × (model_at design [] ≡ Some model)
     root = root_model design
 
-    pub reached_closed_numbers : IsClosed targets (λ number. is_reached_model design (slice_get design.models number))
+    pub reached_closed_numbers : IsClosedByPlacing targets (λ number. is_reached_model design (slice_get design.models number))
     reached_closed_numbers = record {
       root = ap (is_reached_model design) root.1 ∙ reached_at design [] root.0 root.1;
       placed = λ number place kid there places.
@@ -94,7 +94,7 @@ module _ (design : Design) where
     }
 
     -- so a search from the root comes to them alone
-    pub search_within : IsWithin (graph_of_models design targets)
+    pub search_within : StaysWithin (graph_of_models design targets)
     search_within = record {
       below = reached_within design;
       started = λ number start. ap (λ (n : ℕ). is_reached_model design (slice_get design.models n)) (eqb-true number 0 start) ∙ reached_closed_numbers.root;
@@ -102,7 +102,7 @@ module _ (design : Design) where
     }
 
     -- and the least that are
-    pub reached_least_numbers : (test : ℕ → Bool) → IsClosed targets test → (number : ℕ) → is_reached_model design (slice_get design.models number) ≡ true → test number ≡ true
+    pub reached_least_numbers : (test : ℕ → Bool) → IsClosedByPlacing targets test → (number : ℕ) → is_reached_model design (slice_get design.models number) ≡ true → test number ≡ true
     reached_least_numbers test closed number reached = by (slice_get design.models number) refl reached where
       by_name : (name next : Word) → test (place_in_file design name) ≡ true → model_places (model_named design.models name) next ≡ true → is_some (model_named design.models next) ≡ true → test (place_in_file design next) ≡ true
       by_name name next there places some = named (model_named design.models name) refl places where

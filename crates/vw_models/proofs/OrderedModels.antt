@@ -21,7 +21,7 @@ use Rattle.vw_design.specs.ModelNumbers.{IsNumberOfModel, AreTargets, is_reached
 use Rattle.vw_design.proofs.Circles.{no_circle}
 use Rattle.vw_design.proofs.ListElements.{Has, Has-at, any-Has, from-any, all-Has, Has-filter, Has-filter_map, from-filter_map, none-found, all_pass}
 use Rattle.vw_design.proofs.Names.{equal_names}
-use Rattle.vw_models.specs.Steps.Reach.{Targets, IsClosed, PlacesAt}
+use Rattle.vw_models.specs.Steps.Reach.{Targets, IsClosedByPlacing, PlacesAt}
 use Rattle.vw_models.specs.Steps.Unknown.{unknown_of}
 use Rattle.vw_order.specs.Orders.{IsNumberOrder}
 use Rattle.vw_net.proofs.Orders.{among_at, at_among}
@@ -57,7 +57,7 @@ module _ (design : Design) where
         let in_model = none-found (λ (m : Model). first_found (unknown_of design) m.items) model (filter (λ (m : Model). is_reached design m.name) design.models) (unknown_is design ∙ none) in_file in
         is_known line (model_named design.models name) (none-found (unknown_of design) (Sub line name binds) model.items in_model has)
 
-    closed : IsClosed targets (is_among order)
+    closed : IsClosedByPlacing targets (is_among order)
     closed = record {
       root = is_order.all 0 refl;
       placed = λ number place kid among places.

@@ -7,7 +7,7 @@ use Rattle.std.proofs.lemmas.Option.{none-some, same_Some}
 use Rattle.vw_net.proofs.Orders.{among_at, at_among}
 use Rattle.vw_net.proofs.Lists.{once_none}
 use Rattle.vw_net.specs.Order.{is_among}
-use Rattle.vw_models.specs.Steps.Reach.{Targets, PlacesAt, AreWithin, IsClosed, AreReached, with_number, with_targets, AreFlagged, AreReachFlags}
+use Rattle.vw_models.specs.Steps.Reach.{Targets, PlacesAt, AreWithin, IsClosedByPlacing, AreReached, with_number, with_targets, AreFlagged, AreReachFlags}
 use Rattle.vw_order.proofs.Among.{among_left, among_either, among_one, among_last, once_push, once_short}
 
 -- numbers grow at their end
@@ -43,7 +43,7 @@ module _ (targets : Targets) where
   -- a number that may be added
   pub record MayBeAdded (number : ℕ) : Type 0 where
     pub within : number < length targets
-    pub reached : (test : ℕ → Bool) → IsClosed targets test → test number ≡ true
+    pub reached : (test : ℕ → Bool) → IsClosedByPlacing targets test → test number ≡ true
 
   pub record IsAdded (found : List ℕ) (number : ℕ) (new : List ℕ) : Type 0 where
     pub good : AreGood new

@@ -1,7 +1,7 @@
 //! Outputs of placed models that are inputs or clocks of them, too.
 ghost use Rattle.std.specs.Prelude.{◌≡◌, option_map, IfOk};
 ghost use Rattle.std.specs.List.{AllZip};
-ghost use Rattle.vw_design.specs.ModelFaults.{both_ways};
+ghost use Rattle.vw_design.specs.ModelFaults.{port_both_ways};
 ghost use Rattle.vw_design.specs.ModelNumbers.{AreModelsReached};
 ghost use Rattle.vw_models.specs.Steps.PlacedModels.{IsNumberedPlacing, placed_models};
 ghost use Rattle.vw_models.specs.Steps.Formals.{IsBothWays};
@@ -23,7 +23,7 @@ pub fn both_ways(
 ) -> Result<Option<OutputOf>, AllocError>
     requires flags { AreModelsReached targets.now.design.now flags.now }
     ensures { IfOk result
-        (λ found. option_map named_output found ≡ both_ways targets.now.design.now) }
+        (λ found. option_map named_output found ≡ port_both_ways targets.now.design.now) }
 {
     let placed = placed_models(alloc, targets, flags)?;
     let outputs = all_both(alloc, targets.design)?;
@@ -39,7 +39,7 @@ fn first_both(
 ) -> Result<Option<OutputOf>, AllocError>
     requires placed { AllZip (IsNumberedPlacing design.now) (placed_models design.now) placed.now }
     requires outputs { AllZip IsBothWays design.now.models outputs.now }
-    ensures { IfOk result (λ found. option_map named_output found ≡ both_ways design.now) }
+    ensures { IfOk result (λ found. option_map named_output found ≡ port_both_ways design.now) }
 {
     for numbered in placed {
         let found = outputs[numbered.number as usize];

@@ -28,7 +28,7 @@ fn formals_of(alloc: Global, model: &Model) -> Result<WordSet<'_>, AllocError>
     Ok(formals)
 }
 
-/// Those of each model.
+/// Those of each model, whether an instance of it is placed or not, so that the work stays linear in the text.
 pub fn all_formals(alloc: Global, design: &Design) -> Result<Vec<WordSet<'_>>, AllocError>
     ensures { IfOk result (λ formals. AllZip AreFormals design.now.models formals.items) }
 {

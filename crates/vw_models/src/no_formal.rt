@@ -7,7 +7,7 @@ ghost use Rattle.vw_design.specs.WordSets.{has_word};
 ghost use Rattle.vw_models.specs.Steps.PlacedModels.{IsNumberedPlacing, placed_models};
 ghost use Rattle.vw_models.specs.Steps.Formals.{AreFormals};
 ghost use Rattle.vw_design.specs.Paths.{lent};
-ghost use Rattle.vw_models.specs.PlacedFaults.{name_at};
+ghost use Rattle.vw_models.specs.PlacedFaults.{formal_name};
 
 use crate::formal_at::FormalAt;
 use crate::formals::all_formals;
@@ -26,7 +26,7 @@ pub fn unknown_formal(
 ) -> Result<Option<FormalAt>, AllocError>
     requires flags { AreModelsReached targets.now.design.now flags.now }
     ensures { IfOk result
-        (λ found. option_map name_at found ≡ unknown_formal targets.now.design.now) }
+        (λ found. option_map formal_name found ≡ unknown_formal targets.now.design.now) }
 {
     let placed = placed_models(alloc, targets, flags)?;
     let formals = all_formals(alloc, targets.design)?;
@@ -42,7 +42,7 @@ fn first_unknown(
 ) -> Result<Option<FormalAt>, AllocError>
     requires placed { AllZip (IsNumberedPlacing design.now) (placed_models design.now) placed.now }
     requires formals { AllZip AreFormals design.now.models formals.now }
-    ensures { IfOk result (λ found. option_map name_at found ≡ unknown_formal design.now) }
+    ensures { IfOk result (λ found. option_map formal_name found ≡ unknown_formal design.now) }
 {
     for numbered in placed {
         let found = unknown_among(&formals[numbered.number as usize], numbered.binds);

@@ -5,7 +5,7 @@ ghost use Rattle.vw_design.specs.ModelFaults.{unbound_input, unbound_input_in};
 ghost use Rattle.vw_design.specs.ModelNumbers.{AreModelsReached};
 ghost use Rattle.vw_models.specs.Steps.PlacedModels.{IsNumberedPlacing, placed_models};
 ghost use Rattle.vw_design.specs.Paths.{lent};
-ghost use Rattle.vw_models.specs.PlacedFaults.{name_at};
+ghost use Rattle.vw_models.specs.PlacedFaults.{formal_name};
 
 use crate::formal_at::FormalAt;
 use crate::numbered_placing::{NumberedPlacing, placed_models};
@@ -23,7 +23,7 @@ pub fn unbound_input(
 ) -> Result<Option<FormalAt>, AllocError>
     requires flags { AreModelsReached targets.now.design.now flags.now }
     ensures { IfOk result
-        (λ found. option_map name_at found ≡ unbound_input targets.now.design.now) }
+        (λ found. option_map formal_name found ≡ unbound_input targets.now.design.now) }
 {
     let placed = placed_models(alloc, targets, flags)?;
     first_unbound(alloc, targets.design, placed.as_slice())
@@ -36,7 +36,7 @@ fn first_unbound(
     placed: &[NumberedPlacing],
 ) -> Result<Option<FormalAt>, AllocError>
     requires { AllZip (IsNumberedPlacing design.now) (placed_models design.now) placed.now }
-    ensures { IfOk result (λ found. option_map name_at found ≡ unbound_input design.now) }
+    ensures { IfOk result (λ found. option_map formal_name found ≡ unbound_input design.now) }
 {
     for numbered in placed {
         let model = &design.models()[numbered.number as usize];

@@ -23,3 +23,4 @@ pub mod TruthTables
 pub mod RowMasks
 pub mod SameCovers
 pub mod WrittenBits
+pub mod Cuts

@@ -13,3 +13,4 @@ pub mod Value
 pub mod FoundValue
 pub mod History
 pub mod Steps
+pub mod Cut

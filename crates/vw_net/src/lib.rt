@@ -9,6 +9,7 @@ mod laws;
 mod limits;
 mod masks;
 mod ordered;
+mod rows;
 mod sequence;
 mod truth_table;
 
@@ -21,5 +22,6 @@ pub use laws::{
 };
 pub use limits::{MOST_CELLS, MOST_DESIGN_OUTPUTS, MOST_INPUTS, MOST_OUTPUTS, MOST_TABLE_INPUTS};
 pub use ordered::Ordered;
-pub use sequence::{Bits, Rows, Sequence};
+pub use rows::Rows;
+pub use sequence::{Bits, Sequence};
 pub use truth_table::{TRUTH_TABLE_INPUTS, bit_of};

@@ -42,9 +42,6 @@ impl<T> Sequence<T> {
 /// Truth values, one for each column, net or latch.
 pub type Bits = Sequence<bool>;
 
-/// Lists of truth values, one for each clock.
-pub type Rows = Sequence<Bits>;
-
 impl Sequence<bool> {
     /// Writes the value at a place.
     pub fn set(&mut self, at: usize, bit: bool)

@@ -17,7 +17,7 @@ use Rattle.vw_instances.specs.declared.tables.CellSite.{CellSite}
 use Rattle.vw_instances.specs.declared.tables.ListedInstance.{ListedInstance}
 use Rattle.vw_instances.specs.Tables.{IsEntryAt}
 use Rattle.vw_drivers.specs.declared.tables.Tables.{Tables}
-use Rattle.vw_drivers.specs.Tables.{AreTables, instance_firsts}
+use Rattle.vw_drivers.specs.Tables.{AreDesignTables, instance_firsts}
 use Rattle.vw_nets.specs.Steps.Items.{item_at_site, numbers_by, AreNumbersOf}
 
 -- what a list has at a number, where it is read through a reference
@@ -30,7 +30,7 @@ numbers_of_names firsts names numbers are place name at =
     ∙ ap (option_and_then (λ (number : Option ℕ). number)) (slice_get-map (number_named firsts) names place)
     ∙ ap (λ (found : Option Word). option_and_then (λ (number : Option ℕ). number) (option_map (number_named firsts) found)) at
 
-module _ (design : Design) (tables : Tables) (are : AreTables design tables) (cell : CellSite) (path : Path) (item : Item) (listed : slice_get (instances design) cell.instance ≡ Some path) (at : item_at design path cell.item ≡ Some item) where
+module _ (design : Design) (tables : Tables) (are : AreDesignTables design tables) (cell : CellSite) (path : Path) (item : Item) (listed : slice_get (instances design) cell.instance ≡ Some path) (at : item_at design path cell.item ≡ Some item) where
   abbrev pub entry : (found : ListedInstance) × (slice_get tables.instances cell.instance ≡ Some found) × IsEntryAt design (instances design) cell.instance path found
   entry = are.placed.each cell.instance path listed
 
@@ -64,7 +64,7 @@ module _ (design : Design) (tables : Tables) (are : AreTables design tables) (ce
   item_here found is = same_Some found item (is ∙ item_is)
 
 -- the claims of the root's model
-module _ (design : Design) (tables : Tables) (are : AreTables design tables) where
+module _ (design : Design) (tables : Tables) (are : AreDesignTables design tables) where
   abbrev pub root_entry : (found : ListedInstance) × (slice_get tables.instances 0 ≡ Some found) × IsEntryAt design (instances design) 0 [] found
   root_entry = are.placed.each 0 [] refl
 

@@ -21,7 +21,7 @@ use Rattle.vw_drivers.specs.declared.model_claims.ModelClaims.{ModelClaims}
 use Rattle.vw_drivers.specs.Claimed.{AreClaims, meant}
 use Rattle.vw_drivers.specs.Firsts.{First, number_named, claim_at}
 use Rattle.vw_drivers.specs.declared.tables.Tables.{Tables}
-use Rattle.vw_drivers.specs.Tables.{AreTables, root_firsts}
+use Rattle.vw_drivers.specs.Tables.{AreDesignTables, root_firsts}
 use Rattle.vw_drivers.proofs.ClaimLookups.{one_name}
 use Rattle.vw_nets.specs.declared.columns.Columns.{Columns}
 use Rattle.vw_nets.specs.Columns.{AreColumns}
@@ -115,7 +115,7 @@ pub free_number : (firsts : List First) (clock_flags : List Bool) (x : Word) (n 
 free_number firsts clock_flags x n is = free_name clock_flags (number_named firsts x) n is
 
 -- an input of the root has a number, and is free exactly where it is no clock port
-module _ (design : Design) (tables : Tables) (are : AreTables design tables) (root : Model) (stands : Some root ≡ model_at design []) where
+module _ (design : Design) (tables : Tables) (are : AreDesignTables design tables) (root : Model) (stands : Some root ≡ model_at design []) where
   claimed : (found : ModelClaims) × (slice_get tables.claims 0 ≡ Some found) × AreClaims design (Some root) found
   claimed = are.claims.each 0 root (sym stands)
 

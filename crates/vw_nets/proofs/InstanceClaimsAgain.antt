@@ -17,7 +17,7 @@ use Rattle.vw_instances.specs.declared.sizes.Before.{Before}
 use Rattle.vw_instances.specs.declared.tables.ListedInstance.{ListedInstance}
 use Rattle.vw_instances.specs.Tables.{IsEntryAt}
 use Rattle.vw_drivers.specs.declared.tables.Tables.{Tables}
-use Rattle.vw_drivers.specs.Tables.{AreTables}
+use Rattle.vw_drivers.specs.Tables.{AreDesignTables}
 use Rattle.vw_nets.specs.Steps.SecondClaims.{again_by, position_by, IsClaimedAt, AreFrom, AreNone}
 
 -- more items weigh no less
@@ -61,7 +61,7 @@ module _ (design : Design) (path : Path) where
         (cases_lt number again.item)
 
 -- the tables of an instance
-module _ (design : Design) (tables : Tables) (are : AreTables design tables) (instance : ℕ) (path : Path) (listed : slice_get (instances design) instance ≡ Some path) where
+module _ (design : Design) (tables : Tables) (are : AreDesignTables design tables) (instance : ℕ) (path : Path) (listed : slice_get (instances design) instance ≡ Some path) where
   abbrev pub entry : (found : ListedInstance) × (slice_get tables.instances instance ≡ Some found) × IsEntryAt design (instances design) instance path found
   entry = are.placed.each instance path listed
 

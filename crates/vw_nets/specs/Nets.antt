@@ -4,7 +4,7 @@ use Rattle.vw_design.specs.Paths.{Word, Net, printed}
 use Rattle.vw_design.specs.NetFaults.{Unlike, Edged}
 use Rattle.vw_design.specs.Accepted.{HasNoModelFault}
 use Rattle.vw_instances.specs.Tables.{AreCellSites}
-use Rattle.vw_drivers.specs.Tables.{AreTables}
+use Rattle.vw_drivers.specs.Tables.{AreDesignTables}
 use Rattle.vw_drivers.specs.Drivers.{AreDrivers}
 use Rattle.vw_nets.specs.declared.nets.Nets.{Nets}
 use Rattle.vw_nets.specs.declared.nets.Pair.{Pair}
@@ -12,7 +12,7 @@ use Rattle.vw_nets.specs.declared.nets.Pair.{Pair}
 -- the tables are those of the design, which has no fault of models
 pub record AreNets (nets : Nets) : Type 0 where
   pub faultless : HasNoModelFault nets.design.now
-  pub tables : AreTables nets.design.now nets.tables.now
+  pub tables : AreDesignTables nets.design.now nets.tables.now
   pub drivers : AreDrivers nets.design.now nets.tables.now nets.drivers.now
   pub cells : AreCellSites nets.design.now nets.cells.now
 

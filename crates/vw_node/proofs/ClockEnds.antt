@@ -1,10 +1,9 @@
 -- What the start and the end of a clock make of a node.
-use Rattle.std.proofs.Common.{◌≡◌, ◌<◌, ◌≤◌, ◌+◌, ◌-◌, ◌&&◌, ◌∷◌, ◌++◌, ℕ, Bool, true, false, List, [], length, map, take, get_or, eqb, nat_lt, replicate, slice_get, if◌then◌else◌, ap, ap₂, refl, sym, subst, ◌∙◌, ⊎_elim, Option, Some, None, All, arith}
+use Rattle.std.proofs.Common.{◌≡◌, ◌<◌, ◌≤◌, ◌+◌, ◌-◌, ◌&&◌, ◌∷◌, ◌++◌, ℕ, Bool, true, false, List, [], length, map, take, get_or, eqb, nat_lt, replicate, set, slice_get, if◌then◌else◌, ap, ap₂, refl, sym, subst, ◌∙◌, ⊎_elim, Option, Some, None, All, arith}
 use Rattle.std.specs.List.{range_with_len}
-use Rattle.std.specs.Vec.{vec_capacity}
 use Rattle.std.proofs.lemmas.Bool.{and_parts, cases_lt}
-use Rattle.std.proofs.lemmas.List.{ext_get_or, get_or-replicate, get_or_append_left, get_or_past, length-map, length-replicate, length_push}
-use Rattle.std.proofs.lemmas.List.Elements.{filter_passes}
+use Rattle.std.proofs.lemmas.List.{ext_get_or, get_or-replicate, get_or_past, length-map, length-replicate, length-set, take_more_set}
+use Rattle.std.proofs.lemmas.List.Elements.{All-set, filter_passes}
 use Rattle.std.proofs.lemmas.Option.{slice_get-get_or}
 use Rattle.vw_net.specs.declared.cell.Cell.{Cell}
 use Rattle.vw_net.specs.declared.cell.Cell.TheVariants.{Gate, Latch}
@@ -22,7 +21,7 @@ use Rattle.vw_prog.specs.declared.code.Op.TheVariants as op
 use Rattle.vw_prog.specs.declared.job.Job.{Job}
 use Rattle.vw_prog.specs.declared.job.Share.{Share}
 use Rattle.vw_prog.specs.Actions.{actions}
-use Rattle.vw_prog.specs.Codes.{BeginsWith, IsCode, slot_of, taken_net}
+use Rattle.vw_prog.specs.Codes.{BeginsWithAction, IsCode, net_slot, taken_net}
 use Rattle.vw_prog.specs.Due.{own_latches, recorded}
 use Rattle.vw_prog.specs.Ends.{SeenEnds}
 use Rattle.vw_prog.specs.Loops.{Stand}
@@ -31,7 +30,7 @@ use Rattle.vw_prog.specs.Timetable.{entries_at, is_evaluating, is_sending, timet
 use Rattle.vw_prog.proofs.LoopTurns.{stand_again, stand_on}
 use Rattle.vw_node.specs.declared.node.Node.{Node}
 use Rattle.vw_node.specs.declared.step.Step.TheVariants.{Moved}
-use Rattle.vw_node.specs.Fits.{IsFit, IsShare, bit_by, bit_in, slot_bit, state_of}
+use Rattle.vw_node.specs.Fits.{FitsJob, IsShare, bit_by, bit_at_slot, slot_bit, state_of}
 use Rattle.vw_node.specs.Lists.{tabulate}
 use Rattle.vw_node.specs.Moves.{MakesSome}
 use Rattle.vw_node.specs.Positions.{Agrees}
@@ -95,8 +94,8 @@ module _ (job : Job) (share : Share) (is : IsShare job share) (code : Code) (is_
   pub latches_within : All (λ slot. slot < length nets) code.latches.items
   latches_within = slots_within nets own code.latches.items is_code.latches
 
-  inputs_map : map (slot_of nets) (map (λ net. taken_net (driving_cell job.checked.ordered.flat net)) own) ≡ map Some code.inputs.items
-  inputs_map = map_twice (slot_of nets) (λ (net : ℕ). taken_net (driving_cell job.checked.ordered.flat net)) own ∙ is_code.inputs
+  inputs_map : map (net_slot nets) (map (λ net. taken_net (driving_cell job.checked.ordered.flat net)) own) ≡ map Some code.inputs.items
+  inputs_map = map_twice (net_slot nets) (λ (net : ℕ). taken_net (driving_cell job.checked.ordered.flat net)) own ∙ is_code.inputs
 
   pub inputs_within : All (λ slot. slot < length nets) code.inputs.items
   inputs_within = slots_within nets (map (λ net. taken_net (driving_cell job.checked.ordered.flat net)) own) code.inputs.items inputs_map
@@ -124,21 +123,21 @@ module _ (job : Job) (share : Share) (is : IsShare job share) (code : Code) (is_
   -- ---- the start
 
   pub start_slots_are : (bits : List Bool) → bits ≡ replicate (length nets) false
-      → tabulate (bit_by nets (with_bits code.latches.items (map (bit_in share.start.now) code.numbers.items) (with_row (row_at share 0) bits))) all_nets ≡ tabulate (start_bit job node) all_nets
+      → tabulate (bit_by nets (with_bits code.latches.items (map (bit_at_slot share.start.now) code.numbers.items) (with_row (row_at share 0) bits))) all_nets ≡ tabulate (start_bit job node) all_nets
   start_slots_are bits zeros =
       ap (λ (others : List Bool). tabulate (bit_by nets (with_bits code.latches.items others (with_row (row_at share 0) bits))) all_nets) values
       ∙ tabulate_same (bit_by nets (sourced value 0 bits)) (start_bit job node) all_nets (λ net within. sourced_bit value 0 bits long net ∙ same net) where
         value : ℕ → Bool
-        value net = bit_in job.start (latch_number job net)
+        value net = bit_at_slot job.start (latch_number job net)
 
-        values : map (bit_in share.start.now) code.numbers.items ≡ map value own
-        values = ap₂ (λ (start : List Bool) (numbers : List ℕ). map (bit_in start) numbers) is.start is_code.numbers ∙ map_twice (bit_in job.start) (latch_number job) own
+        values : map (bit_at_slot share.start.now) code.numbers.items ≡ map value own
+        values = ap₂ (λ (start : List Bool) (numbers : List ℕ). map (bit_at_slot start) numbers) is.start is_code.numbers ∙ map_twice (bit_at_slot job.start) (latch_number job) own
 
         long : length bits ≡ length nets
         long = ap (λ (list : List Bool). length list) zeros ∙ length-replicate (length nets) false
 
         none : (net : ℕ) → bit_by nets bits net ≡ false
-        none net = by (slot_of nets net) where
+        none net = by (net_slot nets net) where
           by : (slot : Option ℕ) → slot_bit bits slot ≡ false
           by None = refl
           by (Some place) = ap (λ (list : List Bool). get_or list place false) zeros ∙ zero_at (length nets) place where
@@ -163,12 +162,12 @@ module _ (job : Job) (share : Share) (is : IsShare job share) (code : Code) (is_
     slot_now : (net : ℕ) → net < all_nets → slot now net ≡ bit_by nets bits net
     slot_now net within = get_or-tabulate (bit_by nets bits) many net false (omega (arith, within, count))
 
-    pub recorded_now : map (bit_in bits) code.records.items ≡ map (slot now) (recorded (planned_of job) node)
+    pub recorded_now : map (bit_at_slot bits) code.records.items ≡ map (slot now) (recorded (planned_of job) node)
     recorded_now =
         bits_are nets bits (recorded (planned_of job) node) code.records.items is_code.records
         ∙ map_agree (bit_by nets bits) (slot now) (recorded (planned_of job) node) (λ place default within. sym (slot_now (get_or (recorded (planned_of job) node) place default) (records_within job node place default within)))
 
-    pub stepped_now : tabulate (bit_by nets (with_bits code.latches.items (map (bit_in bits) code.inputs.items) (with_row (row_at share (clock + 1)) bits))) many ≡ tabulate (stepped_bit job node now) (length now.slots)
+    pub stepped_now : tabulate (bit_by nets (with_bits code.latches.items (map (bit_at_slot bits) code.inputs.items) (with_row (row_at share (clock + 1)) bits))) many ≡ tabulate (stepped_bit job node now) (length now.slots)
     stepped_now =
         ap (λ (others : List Bool). tabulate (bit_by nets (with_bits code.latches.items others (with_row (row_at share (clock + 1)) bits))) many) values
         ∙ tabulate_same (bit_by nets (sourced value (clock + 1) bits)) (stepped_bit job node now) many (λ net within. sourced_bit value (clock + 1) bits long net ∙ same net (omega (arith, within, count)))
@@ -176,7 +175,7 @@ module _ (job : Job) (share : Share) (is : IsShare job share) (code : Code) (is_
           value : ℕ → Bool
           value net = bit_by nets bits (taken_net (driving_cell job.checked.ordered.flat net))
 
-          values : map (bit_in bits) code.inputs.items ≡ map value own
+          values : map (bit_at_slot bits) code.inputs.items ≡ map value own
           values = bits_are nets bits (map (λ net. taken_net (driving_cell job.checked.ordered.flat net)) own) code.inputs.items inputs_map ∙ map_twice (bit_by nets bits) (λ (net : ℕ). taken_net (driving_cell job.checked.ordered.flat net)) own
 
           latch : (net : ℕ) (cell : Option Cell) (input : Bool) → nat_lt net job.checked.ordered.flat.inputs ≡ input → driving_cell job.checked.ordered.flat net ≡ cell → latch_or (value net) (bit_by nets bits net) cell ≡ latch_bit (slot now) (bit_by nets bits net) cell
@@ -195,9 +194,9 @@ module _ (job : Job) (share : Share) (is : IsShare job share) (code : Code) (is_
 
 -- ---- the node
 
-module _ (ends : SeenEnds) (old : Node) (fits : IsFit ends.job old) (agrees : Agrees ends.job old.share.node (state_of old) ends) (differ : old.clock ≡ old.share.clocks → ⊥) where
-  pub some_spare : 0 < length old.spare.items
-  some_spare = omega (arith, fits.spare, unfinished ends old fits agrees differ)
+module _ (ends : SeenEnds) (old : Node) (fits : FitsJob ends.job old) (agrees : Agrees ends.job old.share.node (state_of old) ends) (differ : old.clock ≡ old.share.clocks → ⊥) where
+  pub row_there : old.clock < length old.rows
+  row_there = omega (arith, fits.count, unfinished ends old fits agrees differ)
 
   pub end_inputs : length old.code.now.inputs.items ≡ length old.code.now.latches.items
   end_inputs = inputs_long ends.job old.share fits.share old.code.now fits.code
@@ -216,7 +215,7 @@ module _ (ends : SeenEnds) (old : Node) (fits : IsFit ends.job old) (agrees : Ag
     step_next =
         let found = op_begins ends old.share.node old.code.now fits.code old.made op.Step (slice_get-get_or old.code.now.ops.items old.made default (op_within ends old fits agrees differ) ∙ ap Some is) in
         by found.0 found.1.0 found.1.1 where
-          by : (one : Action) → slice_get (actions (planned_of ends.job) old.share.node) old.made ≡ Some one → BeginsWith ends.job.checked.ordered.flat old.code.now one op.Step → slice_get (actions (planned_of ends.job) old.share.node) old.made ≡ Some action.Step
+          by : (one : Action) → slice_get (actions (planned_of ends.job) old.share.node) old.made ≡ Some one → BeginsWithAction ends.job.checked.ordered.flat old.code.now one op.Step → slice_get (actions (planned_of ends.job) old.share.node) old.made ≡ Some action.Step
           by (action.Evaluate number) at begins = absurd begins
           by (action.Send link pin net) at begins = absurd begins
           by (action.Take link pin net) at begins = absurd begins
@@ -233,16 +232,19 @@ module _ (ends : SeenEnds) (old : Node) (fits : IsFit ends.job old) (agrees : Ag
     op_last : length (actions (planned_of ends.job) old.share.node) ≤ old.made + 1
     op_last = omega (arith, all_made, actions_long ends old fits agrees differ)
 
-  module _ (new : Node) (row : List Bool) (rest : new ≡ record old { clock = old.clock + 1; made = 0; slots = new.slots; next = new.next; rows = new.rows; spare = new.spare })
-      (slots : new.slots.items ≡ with_bits old.code.now.latches.items (map (bit_in old.slots.items) old.code.now.inputs.items) (with_row (row_at old.share (old.clock + 1)) old.slots.items)) (next : length new.next.items ≡ length old.next.items)
-      (rows : new.rows.items ≡ old.rows.items ++ map (bit_in old.slots.items) old.code.now.records.items ∷ []) (spare : old.spare.items ≡ new.spare.items ++ row ∷ []) (capacity : vec_capacity old.rows ≤ vec_capacity new.rows) where
+  module _ (new : Node) (rest : new ≡ record old { clock = old.clock + 1; made = 0; slots = new.slots; next = new.next; rows = new.rows })
+      (slots : new.slots.items ≡ with_bits old.code.now.latches.items (map (bit_at_slot old.slots.items) old.code.now.inputs.items) (with_row (row_at old.share (old.clock + 1)) old.slots.items)) (next : length new.next.items ≡ length old.next.items)
+      (rows : new.rows ≡ set old.rows old.clock (map (bit_at_slot old.slots.items) old.code.now.records.items)) where
+    abbrev line : List Bool
+    line = map (bit_at_slot old.slots.items) old.code.now.records.items
+
     same_share : new.share ≡ old.share
     same_share = ap (λ (one : Node). one.share) rest
 
     same_code : new.code.now ≡ old.code.now
     same_code = ap (λ (one : Node). one.code.now) rest
 
-    pub end_fits : (default : Op) → get_or old.code.now.ops.items old.made default ≡ op.Step → IsFit ends.job new
+    pub end_fits : (default : Op) → get_or old.code.now.ops.items old.made default ≡ op.Step → FitsJob ends.job new
     end_fits default is = record {
       share = subst (IsShare ends.job) (sym same_share) fits.share;
       code = subst (λ (share : Share). IsCode (planned_of ends.job) share.node (actions (planned_of ends.job) share.node) new.code.now) (sym same_share) (subst (IsCode (planned_of ends.job) old.share.node (actions (planned_of ends.job) old.share.node)) (sym same_code) fits.code);
@@ -252,23 +254,23 @@ module _ (ends : SeenEnds) (old : Node) (fits : IsFit ends.job old) (agrees : Ag
           let all : length program ≤ old.made + 1 = omega (arith, op_last default is) in
           let again = stand_again program old.code.now.loops.items (old.made + 1) old.places.items here fits.code.loops all in
           subst (λ (one : Node). Stand (actions (planned_of ends.job) one.share.node) one.code.now.loops.items one.made one.places.items) (sym rest) again;
-      slots = ap (λ (bits : List Bool). length bits) slots ∙ length-sourced ends.job old.share fits.share old.code.now fits.code (map (bit_in old.slots.items) old.code.now.inputs.items) (old.clock + 1) old.slots.items fits.slots ∙ ap (λ (code : Code). length code.nets.items) (sym same_code);
+      slots = ap (λ (bits : List Bool). length bits) slots ∙ length-sourced ends.job old.share fits.share old.code.now fits.code (map (bit_at_slot old.slots.items) old.code.now.inputs.items) (old.clock + 1) old.slots.items fits.slots ∙ ap (λ (code : Code). length code.nets.items) (sym same_code);
       next = next ∙ fits.next ∙ ap (λ (code : Code). length code.latches.items) (sym same_code);
-      spare = omega (arith, fits.spare, ap (λ (list : List (List Bool)). length list) spare, length_push new.spare.items row, ap (λ (one : Node). one.clock) rest);
-      even = λ place default below.
-          let at = get_or_append_left new.spare.items (row ∷ []) default place below in
-          let long : length (get_or old.spare.items place default) ≡ length old.code.now.records.items = fits.even place default (omega (arith, below, ap (λ (list : List (List Bool)). length list) spare, length_push new.spare.items row)) in
-          ap (λ (list : List Bool). length list) (sym at) ∙ ap (λ (all : List (List Bool)). length (get_or all place default)) (sym spare) ∙ long ∙ ap (λ (code : Code). length code.records.items) (sym same_code);
-      room = omega (arith, fits.room, capacity, ap (λ (list : List (List Bool)). length list) spare, length_push new.spare.items row, ap (λ (list : List (List Bool)). length list) rows, length_push old.rows.items (map (bit_in old.slots.items) old.code.now.records.items));
+      count = ap (λ (lines : List (List Bool)). length lines) rows ∙ length-set old.rows old.clock line ∙ fits.count;
+      wide =
+          let long : length line ≡ length old.code.now.records.items = length-map old.code.now.records.items (bit_at_slot old.slots.items) in
+          let wide_now : All (λ row. length row ≡ length old.code.now.records.items) (set old.rows old.clock line) = All-set (λ row. length row ≡ length old.code.now.records.items) old.rows old.clock line long fits.wide in
+          subst (λ (code : Code). All (λ row. length row ≡ length code.records.items) new.rows) (sym same_code) (subst (All (λ row. length row ≡ length old.code.now.records.items)) (sym rows) wide_now);
     }
 
     end_state : state_of new ≡ stepped ends.job old.share.node (state_of old)
     end_state =
         ap state_of rest
-        ∙ ap₂ (λ (bits : List Bool) (lines : List (List Bool)). let state : NodeState = record { clock = old.clock + 1; made = 0; slots = tabulate (bit_by old.code.now.nets.items bits) (net_count old.share); rows = lines } in state) slots rows
-        ∙ ap₂ (λ (all : List Bool) (line : List Bool). let state : NodeState = record { clock = old.clock + 1; made = 0; slots = all; rows = old.rows.items ++ line ∷ [] } in state)
-        (stepped_now ends.job old.share fits.share old.code.now fits.code (net_count old.share) old.clock old.made old.slots.items old.rows.items (many_are ends old fits agrees differ) fits.slots)
-        (recorded_now ends.job old.share fits.share old.code.now fits.code (net_count old.share) old.clock old.made old.slots.items old.rows.items (many_are ends old fits agrees differ) fits.slots)
+        ∙ ap₂ (λ (bits : List Bool) (lines : List (List Bool)). let state : NodeState = record { clock = old.clock + 1; made = 0; slots = tabulate (bit_by old.code.now.nets.items bits) (net_count old.share); rows = take (old.clock + 1) lines } in state) slots rows
+        ∙ ap₂ (λ (all : List Bool) (lines : List (List Bool)). let state : NodeState = record { clock = old.clock + 1; made = 0; slots = all; rows = lines } in state)
+        (stepped_now ends.job old.share fits.share old.code.now fits.code (net_count old.share) old.clock old.made old.slots.items (take old.clock old.rows) (many_are ends old fits agrees differ) fits.slots)
+        (take_more_set old.rows old.clock line row_there
+        ∙ ap (λ (bits : List Bool). take old.clock old.rows ++ bits ∷ []) (recorded_now ends.job old.share fits.share old.code.now fits.code (net_count old.share) old.clock old.made old.slots.items (take old.clock old.rows) (many_are ends old fits agrees differ) fits.slots))
 
     module _ (default : Op) (is : get_or old.code.now.ops.items old.made default ≡ op.Step) where
       pub end_agrees : Agrees ends.job new.share.node (state_of new) ends

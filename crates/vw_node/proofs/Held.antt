@@ -17,11 +17,11 @@ use Rattle.vw_plan.specs.Nets.{driving_cell}
 use Rattle.vw_plan.specs.PlannedBoard.{PlannedBoard, home}
 use Rattle.vw_prog.specs.declared.entry.Entry.{Entry}
 use Rattle.vw_prog.specs.declared.job.Job.{Job}
-use Rattle.vw_prog.specs.Due.{gives, is_due, is_source, reads, recorded}
+use Rattle.vw_prog.specs.Due.{settles_net, is_due, is_source, nets_read, recorded}
 use Rattle.vw_prog.specs.Scripts.{planned_of, value_at}
 use Rattle.vw_prog.specs.Timetable.{entries_at, is_evaluating, is_sending, timetable}
 use Rattle.vw_prog.proofs.DueReads.{finds_ends, finds_reads}
-use Rattle.vw_node.specs.States.{NodeState, gate_bit, input_bit, kept_bit, latch_bit, latch_number, moved, slot, start_bit, start_state, stepped, stepped_bit, written}
+use Rattle.vw_node.specs.States.{NodeState, gate_bit, input_bit, kept_bit, latch_bit, latch_number, moved_on, slot, start_bit, start_state, stepped, stepped_bit, written}
 use Rattle.vw_node.specs.Holding.{HoldsValues}
 use Rattle.vw_node.proofs.Clocks.{value-gate, value-input, value-latch, value-stepped}
 use Rattle.vw_node.proofs.Values.{get_or-tabulate, length-tabulate, tabulate_more}
@@ -42,22 +42,22 @@ module _ (job : Job) (node : ℕ) where
     below : state.made < length own
     below = slice_get_within own state.made entry at
 
-    -- what is due then: what was due, and the net that the entry gives
-    due_more : (net : ℕ) → is_due planned node (take (state.made + 1) own) net ≡ (is_due planned node (take state.made own) net || gives net entry)
+    -- what is due then: what was due, and the net that the entry settles_net
+    due_more : (net : ℕ) → is_due planned node (take (state.made + 1) own) net ≡ (is_due planned node (take state.made own) net || settles_net net entry)
     due_more net =
         let here : get_or own state.made entry ≡ entry = get_or_from_slice_get own state.made entry entry at in
-        ap (λ (rest : Bool). is_source planned node net || rest) (list_any_more (gives net) own state.made entry below ∙ ap (λ (one : Entry). list_any (gives net) (take state.made own) || gives net one) here)
-        ∙ regroup (is_source planned node net) (list_any (gives net) (take state.made own)) (gives net entry) where
+        ap (λ (rest : Bool). is_source planned node net || rest) (list_any_more (settles_net net) own state.made entry below ∙ ap (λ (one : Entry). list_any (settles_net net) (take state.made own) || settles_net net one) here)
+        ∙ regroup (is_source planned node net) (list_any (settles_net net) (take state.made own)) (settles_net net entry) where
           regroup : (one other third : Bool) → (one || (other || third)) ≡ ((one || other) || third)
           regroup true other third = refl
           regroup false other third = refl
 
-    -- what it reads is due
-    pub reads_due : (place default : ℕ) → place < length (reads planned entry) → slot state (get_or (reads planned entry) place default) ≡ value_at job state.clock (get_or (reads planned entry) place default)
-    reads_due place default within = holds.due unfinished (get_or (reads planned entry) place default) (finds_reads planned job.checked.sound node state.made entry at place default within)
+    -- what it nets_read is due
+    pub reads_due : (place default : ℕ) → place < length (nets_read planned entry) → slot state (get_or (nets_read planned entry) place default) ≡ value_at job state.clock (get_or (nets_read planned entry) place default)
+    reads_due place default within = holds.due unfinished (get_or (nets_read planned entry) place default) (finds_reads planned job.checked.sound node state.made entry at place default within)
 
     -- a send changes nothing
-    pub sent_holds : is_sending entry ≡ true → HoldsValues job node (moved state)
+    pub sent_holds : is_sending entry ≡ true → HoldsValues job node (moved_on state)
     sent_holds sends = record {
       within = holds.within;
       under = omega (arith, below);
@@ -70,7 +70,7 @@ module _ (job : Job) (node : ℕ) where
       still : (net : ℕ) → is_due planned node (take (state.made + 1) own) net ≡ true → is_due planned node (take state.made own) net ≡ true
       still net is =
           let both = sym (due_more net) ∙ is in
-          ⊎_elim (λ before. before) (λ given. absurd (true≢false (sym (and_parts (not (is_sending entry)) (eqb entry.net net) given).0 ∙ ap not sends))) (or_cases (is_due planned node (take state.made own) net) (gives net entry) both)
+          ⊎_elim (λ before. before) (λ given. absurd (true≢false (sym (and_parts (not (is_sending entry)) (eqb entry.net net) given).0 ∙ ap not sends))) (or_cases (is_due planned node (take state.made own) net) (settles_net net entry) both)
 
     -- a slot gets the value of its net
     pub written_holds : (net : ℕ) (bit : Bool) → entry.net ≡ net → bit ≡ value_at job state.clock net → net < length state.slots → HoldsValues job node (written state net bit)
@@ -91,12 +91,12 @@ module _ (job : Job) (node : ℕ) where
 
       still : (other : ℕ) → is_due planned node (take (state.made + 1) own) other ≡ true → (net ≡ other → ⊥) → is_due planned node (take state.made own) other ≡ true
       still other is apart =
-          ⊎_elim (λ before. before) (λ given. absurd (apart (sym same ∙ eqb-true entry.net other (and_parts (not (is_sending entry)) (eqb entry.net other) given).1))) (or_cases (is_due planned node (take state.made own) other) (gives other entry) (sym (due_more other) ∙ is))
+          ⊎_elim (λ before. before) (λ given. absurd (apart (sym same ∙ eqb-true entry.net other (and_parts (not (is_sending entry)) (eqb entry.net other) given).1))) (or_cases (is_due planned node (take state.made own) other) (settles_net other entry) (sym (due_more other) ∙ is))
 
     -- the bit that a gate gets
     pub gate_right : (gate : ℕ) → is_evaluating entry ≡ true → entry.net ≡ flat.inputs + gate → (ins : List ℕ) (cover : Cover) → slice_get flat.cells gate ≡ Some (Gate ins cover) → gate_bit (slot state) (slice_get flat.cells gate) ≡ value_at job state.clock (flat.inputs + gate)
     gate_right gate turn its ins cover is =
-        let nets : reads planned entry ≡ ins =
+        let nets : nets_read planned entry ≡ ins =
         ap (λ (first : Bool). if first then gate_inputs (driving_cell flat entry.net) else (if is_sending entry then entry.net ∷ [] else [])) turn
         ∙ ap (λ (net : ℕ). gate_inputs (driving_cell flat net)) its ∙ driven gate ins cover is in
         let agree : All (λ net. slot state net ≡ value_at job state.clock net) ins = subst (All (λ (net : ℕ). slot state net ≡ value_at job state.clock net)) nets reads_due in

@@ -15,10 +15,10 @@ use Rattle.vw_prog.specs.Timetable.{entries_at, is_evaluating, is_sending, timet
 use Rattle.vw_node.specs.declared.node.Node.{Node}
 use Rattle.vw_node.specs.declared.step.Step.{Step}
 use Rattle.vw_node.specs.declared.step.Step.TheVariants.{Done, Empty, Full, Moved}
-use Rattle.vw_node.specs.Fits.{IsFit, state_of}
+use Rattle.vw_node.specs.Fits.{FitsJob, state_of}
 use Rattle.vw_node.specs.Holding.{HoldsValues}
 use Rattle.vw_node.specs.Left.{left}
-use Rattle.vw_node.specs.Moves.{Goes, GoesOn, Makes, MakesSome, Steps, is_moved}
+use Rattle.vw_node.specs.Moves.{Goes, MakesActions, Makes, MakesSome, Steps, is_moved}
 use Rattle.vw_node.specs.Positions.{Agrees}
 use Rattle.vw_node.specs.States.{NodeState, next_action}
 use Rattle.vw_node.proofs.EntryKinds.{next_entry}
@@ -95,21 +95,21 @@ module _ (job : Job) (node : ℕ) (old : NodeState) where
 -- ---- many actions
 
 -- an action before others
-pub goes_before : (job : Job) (node : ℕ) (first second last : NodeState) (before between after : SeenEnds) (count : ℕ) → Steps job node first second before between Moved → GoesOn job node second last between after count → GoesOn job node first last before after (suc count)
+pub goes_before : (job : Job) (node : ℕ) (first second last : NodeState) (before between after : SeenEnds) (count : ℕ) → Steps job node first second before between Moved → MakesActions job node second last between after count → MakesActions job node first last before after (suc count)
 goes_before job node first second last before between after zero step (same, stay) =
     (first, before, (refl, refl), subst (λ (state : NodeState). Steps job node first state before after Moved) (sym same) (subst (λ (ends : SeenEnds). Steps job node first second before ends Moved) (sym stay) step))
 goes_before job node first second last before between after (suc count) step (state, ends, rest, final) =
     (state, ends, goes_before job node first second state before between ends count step rest, final)
 
 -- actions behind others
-pub goes_further : (job : Job) (node : ℕ) (first second last : NodeState) (before between after : SeenEnds) (made count : ℕ) → GoesOn job node first second before between made → GoesOn job node second last between after count → (all : ℕ) × GoesOn job node first last before after all
+pub goes_further : (job : Job) (node : ℕ) (first second last : NodeState) (before between after : SeenEnds) (made count : ℕ) → MakesActions job node first second before between made → MakesActions job node second last between after count → (all : ℕ) × MakesActions job node first last before after all
 goes_further job node first second last before between after made zero start (same, stay) =
-    (made, subst (λ (state : NodeState). GoesOn job node first state before after made) (sym same) (subst (λ (ends : SeenEnds). GoesOn job node first second before ends made) (sym stay) start))
+    (made, subst (λ (state : NodeState). MakesActions job node first state before after made) (sym same) (subst (λ (ends : SeenEnds). MakesActions job node first second before ends made) (sym stay) start))
 goes_further job node first second last before between after made (suc count) start (state, ends, rest, final) =
     let so_far = goes_further job node first second state before between ends made count start rest in
     (suc so_far.0, (state, ends, so_far.1, final))
 
-pub goes_stays : (job : Job) (node : ℕ) (first last : NodeState) (before after : SeenEnds) (count : ℕ) → GoesOn job node first last before after count → after.job ≡ before.job
+pub goes_stays : (job : Job) (node : ℕ) (first last : NodeState) (before after : SeenEnds) (count : ℕ) → MakesActions job node first last before after count → after.job ≡ before.job
 goes_stays job node first last before after zero (same, stay) = ap (λ (ends : SeenEnds). ends.job) stay
 goes_stays job node first last before after (suc count) (state, ends, rest, final) = job_stays job node state last ends after Moved final ∙ goes_stays job node first state before ends count rest
 
@@ -133,15 +133,15 @@ module _ (job : Job) (node : ℕ) (old new : NodeState) (before after : SeenEnds
   }
 
   -- and some of them, of which there may be one alone
-  pub makes_many : (count : ℕ) → 0 < count → (whole ≡ false → count ≡ 1) → GoesOn job node old new before after count → left job node new + count ≡ left job node old → MakesSome job node old new before after whole Moved
+  pub makes_many : (count : ℕ) → 0 < count → (whole ≡ false → count ≡ 1) → MakesActions job node old new before after count → left job node new + count ≡ left job node old → MakesSome job node old new before after whole Moved
   makes_many zero some single goes less = absurd (omega (arith, some))
   makes_many (suc count) some single goes less = record {
-    one = λ is. only (subst (GoesOn job node old new before after) (single is) goes);
+    one = λ is. only (subst (MakesActions job node old new before after) (single is) goes);
     some = λ moved. (count, goes);
     fewer = λ moved. omega (arith, less);
     none = λ stopped. absurd (true≢false stopped);
   } where
-    only : GoesOn job node old new before after 1 → Steps job node old new before after Moved
+    only : MakesActions job node old new before after 1 → Steps job node old new before after Moved
     only (state, ends, (same, stay), final) = subst (λ (one : NodeState). Steps job node one new before after Moved) same (subst (λ (one : SeenEnds). Steps job node state new one after Moved) stay final)
 
   pub makes_stays : (answer : Step) → MakesSome job node old new before after whole answer → after.job ≡ before.job
@@ -152,10 +152,10 @@ module _ (job : Job) (node : ℕ) (old new : NodeState) (before after : SeenEnds
 
 -- a node that made actions, and whose last try came to an answer
 pub record IsUnderway (start : Node) (before : SeenEnds) (now : Node) (ends : SeenEnds) (answer : Step) : Type 0 where
-  pub fits : IsFit before.job now
+  pub fits : FitsJob before.job now
   pub agrees : Agrees before.job start.share.node (state_of now) ends
   pub share : now.share ≡ start.share
-  pub moved : is_moved answer ≡ true → (count : ℕ) × GoesOn before.job start.share.node (state_of start) (state_of now) before ends count
+  pub moved : is_moved answer ≡ true → (count : ℕ) × MakesActions before.job start.share.node (state_of start) (state_of now) before ends count
   pub stopped : is_moved answer ≡ false → Goes before.job start.share.node (state_of start) (state_of now) before ends answer
 
 -- how many steps are left until one isn't made, and one more
@@ -163,11 +163,11 @@ abbrev pub tries_left : Job → ℕ → NodeState → Step → ℕ
 tries_left job node state answer = if is_moved answer then suc (left job node state) else 0
 
 module _ (start : Node) (before : SeenEnds) where
-  pub first_try : (now : Node) (ends : SeenEnds) (answer : Step) → IsFit ends.job now → Agrees ends.job now.share.node (state_of now) ends → now.share ≡ start.share → MakesSome before.job start.share.node (state_of start) (state_of now) before ends true answer → IsUnderway start before now ends answer
+  pub first_try : (now : Node) (ends : SeenEnds) (answer : Step) → FitsJob ends.job now → Agrees ends.job now.share.node (state_of now) ends → now.share ≡ start.share → MakesSome before.job start.share.node (state_of start) (state_of now) before ends true answer → IsUnderway start before now ends answer
   first_try now ends answer fit agree share makes =
       let job : ends.job ≡ before.job = makes_stays before.job start.share.node (state_of start) (state_of now) before ends true answer makes in
       record {
-        fits = subst (λ (one : Job). IsFit one now) job fit;
+        fits = subst (λ (one : Job). FitsJob one now) job fit;
         agrees = subst (λ (one : Job). Agrees one start.share.node (state_of now) ends) job (subst (λ (own : Share). Agrees ends.job own.node (state_of now) ends) share agree);
         share = share;
         moved = λ is. let gone = makes.some is in (suc gone.0, gone.1);
@@ -178,13 +178,13 @@ module _ (start : Node) (before : SeenEnds) where
     same_job : ends.job ≡ before.job
     same_job = underway.agrees.same_job
 
-    pub fits_now : IsFit ends.job now
-    fits_now = subst (λ (one : Job). IsFit one now) (sym same_job) underway.fits
+    pub fits_now : FitsJob ends.job now
+    fits_now = subst (λ (one : Job). FitsJob one now) (sym same_job) underway.fits
 
     pub agrees_now : Agrees ends.job now.share.node (state_of now) ends
     agrees_now = subst (λ (one : Job). Agrees one now.share.node (state_of now) ends) (sym same_job) (subst (λ (own : Share). Agrees before.job own.node (state_of now) ends) (sym underway.share) underway.agrees)
 
-    module _ (moved : is_moved answer ≡ true) (new : Node) (after : SeenEnds) (next : Step) (fit : IsFit after.job new) (agree : Agrees after.job new.share.node (state_of new) after) (share : new.share ≡ now.share)
+    module _ (moved : is_moved answer ≡ true) (new : Node) (after : SeenEnds) (next : Step) (fit : FitsJob after.job new) (agree : Agrees after.job new.share.node (state_of new) after) (share : new.share ≡ now.share)
         (makes : MakesSome ends.job now.share.node (state_of now) (state_of new) ends after true next) where
       makes_here : MakesSome before.job start.share.node (state_of now) (state_of new) ends after true next
       makes_here = subst (λ (one : Job). MakesSome one start.share.node (state_of now) (state_of new) ends after true next) same_job (subst (λ (own : Share). MakesSome ends.job own.node (state_of now) (state_of new) ends after true next) underway.share makes)
@@ -195,7 +195,7 @@ module _ (start : Node) (before : SeenEnds) where
           let shares : new.share ≡ start.share = share ∙ underway.share in
           let so_far = underway.moved moved in
           record {
-            fits = subst (λ (one : Job). IsFit one new) job fit;
+            fits = subst (λ (one : Job). FitsJob one new) job fit;
             agrees = subst (λ (one : Job). Agrees one start.share.node (state_of new) after) job (subst (λ (own : Share). Agrees after.job own.node (state_of new) after) shares agree);
             share = shares;
             moved = λ is. let gone = makes_here.some is in goes_further before.job start.share.node (state_of start) (state_of now) (state_of new) before ends after so_far.0 (suc gone.0) so_far.1 gone.1;

@@ -18,14 +18,14 @@ use Rattle.vw_prog.specs.declared.entry.Entry.{Entry}
 use Rattle.vw_prog.specs.declared.job.Job.{Job}
 use Rattle.vw_prog.specs.declared.word.Word.{Word}
 use Rattle.vw_prog.specs.Actions.{actions}
-use Rattle.vw_prog.specs.Due.{reads}
-use Rattle.vw_prog.specs.Ends.{IsExpected, IsNextWord, SeenEnds, counted, refused}
+use Rattle.vw_prog.specs.Due.{nets_read}
+use Rattle.vw_prog.specs.Ends.{IsExpected, IsNextWord, SeenEnds, counted_at, refused}
 use Rattle.vw_prog.specs.Scripts.{planned_of, script, value_at, word_at}
 use Rattle.vw_prog.specs.Timetable.{entries_at, is_at, is_evaluating, is_sending, is_sent, is_taken, is_taking, timetable}
 use Rattle.vw_net.proofs.ListParts.{all_at}
 use Rattle.vw_prog.proofs.EntryParts.{HasParts, entry_has}
 use Rattle.vw_node.specs.Positions.{Agrees}
-use Rattle.vw_node.specs.States.{NodeState, evaluated, gate_bit, moved, next_action, slot, stepped, written}
+use Rattle.vw_node.specs.States.{NodeState, evaluated, gate_bit, moved_on, next_action, slot, stepped, written}
 use Rattle.vw_node.proofs.Held.{gate_right, reads_due, sent_holds, stepped_holds, written_holds}
 use Rattle.vw_node.proofs.EntryKinds.{other_turn}
 use Rattle.vw_node.proofs.Words.{all_sent, all_taken, count_more, sent_word, taken_word}
@@ -36,18 +36,18 @@ gate_is (Some (Gate ins cover)) is = (ins, (cover, refl))
 gate_is (Some (Latch d init)) is = absurd (true≢false (sym is))
 
 -- a count with one more at the link of an entry
-counted_by : (link number : ℕ) (counts : ℕ → ℕ) (kind : Bool) → kind ≡ true → counted link counts number ≡ counts number + one_if (kind && eqb link number)
+counted_by : (link number : ℕ) (counts : ℕ → ℕ) (kind : Bool) → kind ≡ true → counted_at link counts number ≡ counts number + one_if (kind && eqb link number)
 counted_by link number counts kind is =
     let if_same = λ (same : eqb number link ≡ true).
     let turned : (kind && eqb link number) ≡ true = and_from kind (eqb link number) is (eqb_comm link number ∙ same) in
     let one : one_if (kind && eqb link number) ≡ 1 = ap one_if turned in
-    let here : counted link counts number ≡ counts number + 1 = ap (λ (own : Bool). if own then counts number + 1 else counts number) same in
-    let whole : counted link counts number ≡ counts number + one_if (kind && eqb link number) = omega (arith, one, here) in whole in
+    let here : counted_at link counts number ≡ counts number + 1 = ap (λ (own : Bool). if own then counts number + 1 else counts number) same in
+    let whole : counted_at link counts number ≡ counts number + one_if (kind && eqb link number) = omega (arith, one, here) in whole in
     let if_other = λ (other : eqb number link ≡ false).
     let turned : (kind && eqb link number) ≡ false = ap₂ (λ (one two : Bool). one && two) is (eqb_comm link number ∙ other) in
     let none : one_if (kind && eqb link number) ≡ 0 = ap one_if turned in
-    let here : counted link counts number ≡ counts number = ap (λ (own : Bool). if own then counts number + 1 else counts number) other in
-    let whole : counted link counts number ≡ counts number + one_if (kind && eqb link number) = omega (arith, none, here) in whole in
+    let here : counted_at link counts number ≡ counts number = ap (λ (own : Bool). if own then counts number + 1 else counts number) other in
+    let whole : counted_at link counts number ≡ counts number + one_if (kind && eqb link number) = omega (arith, none, here) in whole in
     ⊎_elim if_same if_other (cases_Bool (eqb number link))
 
 module _ (ends : SeenEnds) (node : ℕ) (state : NodeState) (agrees : Agrees ends.job node state ends) where
@@ -86,7 +86,7 @@ module _ (ends : SeenEnds) (node : ℕ) (state : NodeState) (agrees : Agrees end
       its : HasParts planned job.checked.sound entry
       its = entry_has planned job.checked.sound node state.made entry at
 
-      -- what isn't counted stays
+      -- what isn't counted_at stays
       no_sent : (number : ℕ) → is_sending entry ≡ false → count_by (is_sent number) (take (state.made + 1) own) ≡ count_by (is_sent number) (take state.made own)
       no_sent number apart = omega (arith, count_more (is_sent number) own state.made entry at, ap (λ (kind : Bool). one_if (kind && eqb entry.link number)) apart)
 
@@ -130,7 +130,7 @@ module _ (ends : SeenEnds) (node : ℕ) (state : NodeState) (agrees : Agrees end
 
         right : slot state entry.net ≡ value_at job state.clock entry.net
         right =
-            let nets : reads planned entry ≡ entry.net ∷ [] =
+            let nets : nets_read planned entry ≡ entry.net ∷ [] =
             ap (λ (first : Bool). if first then gate_inputs (driving_cell planned.ordered.flat entry.net) else (if is_sending entry then entry.net ∷ [] else [])) (other_turn entry 1 0 turn (omega arith))
             ∙ ap (λ (second : Bool). if second then entry.net ∷ [] else []) turn in
             let all : All (λ one. slot state one ≡ value_at job state.clock one) (entry.net ∷ []) = subst (All (λ (one : ℕ). slot state one ≡ value_at job state.clock one)) nets (reads_due job node state agrees.holds entry at unfinished) in
@@ -154,7 +154,7 @@ module _ (ends : SeenEnds) (node : ℕ) (state : NodeState) (agrees : Agrees end
               next = ap (slice_get (script job link)) (agrees.sent link there.0 leaves own_node) ∙ sent_word job node state entry at unfinished link there.0 leaves own_node sent_turn ∙ ap Some same;
             }
 
-        pub sent_agrees : Agrees job node (moved state) (record ends { sent = counted link ends.sent })
+        pub sent_agrees : Agrees job node (moved_on state) (record ends { sent = counted_at link ends.sent })
         sent_agrees = record {
           same_job = agrees.same_job;
           same_node = agrees.same_node;
@@ -189,7 +189,7 @@ module _ (ends : SeenEnds) (node : ℕ) (state : NodeState) (agrees : Agrees end
           more = slice_get_within (script job link) (ends.taken link) (word_at job state.clock entry) next_word;
         }
 
-        pub taken_agrees : (word : Word) → slice_get (script job link) (ends.taken link) ≡ Some word → Agrees job node (written state net word.bit) (record ends { taken = counted link ends.taken })
+        pub taken_agrees : (word : Word) → slice_get (script job link) (ends.taken link) ≡ Some word → Agrees job node (written state net word.bit) (record ends { taken = counted_at link ends.taken })
         taken_agrees word is =
             let same : word ≡ word_at job state.clock entry = cc (is, next_word) in
             let bit : word.bit ≡ value_at job state.clock net = ap (λ (one : Word). one.bit) same ∙ ap (value_at job state.clock) (sym its_net) in

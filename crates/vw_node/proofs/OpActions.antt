@@ -22,7 +22,7 @@ use Rattle.vw_prog.specs.declared.code.WideGate.{WideGate}
 use Rattle.vw_prog.specs.declared.entry.Entry.{Entry}
 use Rattle.vw_prog.specs.declared.job.Job.{Job}
 use Rattle.vw_prog.specs.Actions.{action_of, actions}
-use Rattle.vw_prog.specs.Codes.{BeginsWith, IsCode, IsTableGate, IsWideGate, slot_of}
+use Rattle.vw_prog.specs.Codes.{BeginsWithAction, IsCode, IsTableGate, IsWideGate, net_slot}
 use Rattle.vw_prog.specs.Ends.{SeenEnds}
 use Rattle.vw_prog.specs.Loops.{Stand}
 use Rattle.vw_prog.specs.Scripts.{planned_of}
@@ -30,12 +30,12 @@ use Rattle.vw_prog.specs.SeenGates.{SeenGate, seen_gates}
 use Rattle.vw_prog.specs.Timetable.{entries_at, is_evaluating, timetable}
 use Rattle.vw_prog.proofs.LoopTurns.{stand_on}
 use Rattle.vw_node.specs.declared.step.Step.TheVariants.{Moved}
-use Rattle.vw_node.specs.Fits.{bit_by, bit_in}
+use Rattle.vw_node.specs.Fits.{bit_by, bit_at_slot}
 use Rattle.vw_node.specs.Left.{left}
 use Rattle.vw_node.specs.Lists.{tabulate}
-use Rattle.vw_node.specs.Moves.{GoesOn, Steps}
+use Rattle.vw_node.specs.Moves.{MakesActions, Steps}
 use Rattle.vw_node.specs.Positions.{Agrees}
-use Rattle.vw_node.specs.Slots.{HasArity, IsWithin, wide_by, with_gates}
+use Rattle.vw_node.specs.Slots.{HasArity, ReadsWithin, wide_by, with_gates}
 use Rattle.vw_node.specs.States.{NodeState, evaluated, gate_bit, slot}
 use Rattle.vw_node.proofs.EntryKinds.{evaluates, next_entry}
 use Rattle.vw_node.proofs.MovesOn.{goes_before, less_left}
@@ -73,14 +73,14 @@ module _ (ends : SeenEnds) (node : ℕ) (code : Code) (is_code : IsCode (planned
   all_nets = flat.inputs + length flat.cells
 
   -- the action of an op
-  pub op_begins : (place : ℕ) (one : Op) → slice_get code.ops.items place ≡ Some one → (next : Action) × ((slice_get program place ≡ Some next) × BeginsWith flat code next one)
+  pub op_begins : (place : ℕ) (one : Op) → slice_get code.ops.items place ≡ Some one → (next : Action) × ((slice_get program place ≡ Some next) × BeginsWithAction flat code next one)
   op_begins place one is =
       let within : place < length program = omega (arith, slice_get_within code.ops.items place one is, is_code.count) in
       let next = get_or program place action.Step in
       let there : slice_get program place ≡ Some next = slice_get-get_or program place action.Step within in
       let begins = is_code.begins place next there in
       let found : begins.0 ≡ one = cc (begins.1, is) in
-      (next, (there, subst (λ (other : Op). BeginsWith flat code next other) found begins.2))
+      (next, (there, subst (λ (other : Op). BeginsWithAction flat code next other) found begins.2))
 
   -- ---- gates
 
@@ -88,9 +88,9 @@ module _ (ends : SeenEnds) (node : ℕ) (code : Code) (is_code : IsCode (planned
   RunsOn made slot [] = made ≡ made
   RunsOn made slot (gate ∷ gates) = (number : ℕ) × (slice_get program made ≡ Some (action.Evaluate number)) × IsTableGate flat nets number gate slot × RunsOn (made + 1) (slot + 1) gates
 
-  pub run_begins : (place first end slot : ℕ) → slice_get code.ops.items place ≡ Some (op.Run first end slot) → (number : ℕ) × (slice_get program place ≡ Some (action.Evaluate number)) × BeginsWith flat code (action.Evaluate number) (op.Run first end slot)
+  pub run_begins : (place first end slot : ℕ) → slice_get code.ops.items place ≡ Some (op.Run first end slot) → (number : ℕ) × (slice_get program place ≡ Some (action.Evaluate number)) × BeginsWithAction flat code (action.Evaluate number) (op.Run first end slot)
   run_begins place first end slot is = let found = op_begins place (op.Run first end slot) is in by found.0 found.1.0 found.1.1 where
-    by : (next : Action) → slice_get program place ≡ Some next → BeginsWith flat code next (op.Run first end slot) → (number : ℕ) × (slice_get program place ≡ Some (action.Evaluate number)) × BeginsWith flat code (action.Evaluate number) (op.Run first end slot)
+    by : (next : Action) → slice_get program place ≡ Some next → BeginsWithAction flat code next (op.Run first end slot) → (number : ℕ) × (slice_get program place ≡ Some (action.Evaluate number)) × BeginsWithAction flat code (action.Evaluate number) (op.Run first end slot)
     by (action.Evaluate number) at begins = (number, at, begins)
     by (action.Send link pin net) at begins = absurd begins
     by (action.Take link pin net) at begins = absurd begins
@@ -117,7 +117,7 @@ module _ (ends : SeenEnds) (node : ℕ) (code : Code) (is_code : IsCode (planned
       let inside : made < length program = slice_get_within program made (action.Evaluate number) at in
       omega (arith, runs_inside (made + 1) (slot + 1) gates rest (omega (arith, inside)))
 
-  pub runs_within : (made slot : ℕ) (gates : List SeenGate) → RunsOn made slot gates → AllByRecursion (IsWithin (length nets)) gates
+  pub runs_within : (made slot : ℕ) (gates : List SeenGate) → RunsOn made slot gates → AllByRecursion (ReadsWithin (length nets)) gates
   runs_within made slot [] runs = tt
   runs_within made slot (gate ∷ gates) (number, at, is, rest) = (is.within, runs_within (made + 1) (slot + 1) gates rest)
 
@@ -142,20 +142,20 @@ module _ (ends : SeenEnds) (node : ℕ) (code : Code) (is_code : IsCode (planned
   pub length-with_gates : (slot : ℕ) (gates : List SeenGate) (bits : List Bool) → length (with_gates slot gates bits) ≡ length bits
   length-with_gates slot [] bits = refl
   length-with_gates slot (gate ∷ gates) bits =
-      let bit = bit_of gate.truth_table (place_of (map (bit_in bits) gate.reads)) in
+      let bit = bit_of gate.truth_table (place_of (map (bit_at_slot bits) gate.reads)) in
       length-with_gates (slot + 1) gates (set bits slot bit) ∙ length-set bits slot bit
 
   module _ (number : ℕ) (bits : List Bool) where
     -- a gate by its truth table has the value of its cover
-    pub table_bit : (gate : SeenGate) (slot : ℕ) → IsTableGate flat nets number gate slot → bit_of gate.truth_table (place_of (map (bit_in bits) gate.reads)) ≡ gate_bit (bit_by nets bits) (slice_get flat.cells number)
+    pub table_bit : (gate : SeenGate) (slot : ℕ) → IsTableGate flat nets number gate slot → bit_of gate.truth_table (place_of (map (bit_at_slot bits) gate.reads)) ≡ gate_bit (bit_by nets bits) (slice_get flat.cells number)
     table_bit gate slot is =
         let fits = ins_within number is.ins is.cover is.cell in
-        let own_bits : map (bit_in bits) is.own ≡ map (bit_by nets bits) is.ins = bits_are nets bits is.ins is.own is.slots in
-        let parts : map (bit_in bits) gate.reads ≡ map (bit_by nets bits) is.ins ++ map (bit_in bits) is.more =
-        ap (map (bit_in bits)) is.reads ∙ map_parts (bit_in bits) is.own is.more ∙ ap (λ (some : List Bool). some ++ map (bit_in bits) is.more) own_bits in
-        let long : length (map (bit_by nets bits) is.ins ++ map (bit_in bits) is.more) ≡ length gate.reads = ap (λ (some : List Bool). length some) (sym parts) ∙ length-map gate.reads (bit_in bits) in
+        let own_bits : map (bit_at_slot bits) is.own ≡ map (bit_by nets bits) is.ins = bits_are nets bits is.ins is.own is.slots in
+        let parts : map (bit_at_slot bits) gate.reads ≡ map (bit_by nets bits) is.ins ++ map (bit_at_slot bits) is.more =
+        ap (map (bit_at_slot bits)) is.reads ∙ map_parts (bit_at_slot bits) is.own is.more ∙ ap (λ (some : List Bool). some ++ map (bit_at_slot bits) is.more) own_bits in
+        let long : length (map (bit_by nets bits) is.ins ++ map (bit_at_slot bits) is.more) ≡ length gate.reads = ap (λ (some : List Bool). length some) (sym parts) ∙ length-map gate.reads (bit_at_slot bits) in
         ap₂ (λ (table : ℕ) (some : List Bool). bit_of table (place_of some)) is.truth_table parts
-        ∙ truth_table_repeats is.cover (map (bit_by nets bits) is.ins) (map (bit_in bits) is.more) (length-map is.ins (bit_by nets bits) ∙ fits.0) (omega (arith, long, is.few))
+        ∙ truth_table_repeats is.cover (map (bit_by nets bits) is.ins) (map (bit_at_slot bits) is.more) (length-map is.ins (bit_by nets bits) ∙ fits.0) (omega (arith, long, is.few))
         ∙ ap (gate_bit (bit_by nets bits)) (sym is.cell) where
           map_parts : (f : ℕ → Bool) (xs ys : List ℕ) → map f (xs ++ ys) ≡ map f xs ++ map f ys
           map_parts f [] ys = refl
@@ -193,7 +193,7 @@ module _ (ends : SeenEnds) (node : ℕ) (code : Code) (is_code : IsCode (planned
     -- ---- a gate, at any point of a run
 
     module _ (made : ℕ) (bits : List Bool) (size : length bits ≡ length nets) (agree : Agrees job node (known made bits) ends) (number : ℕ) (at : slice_get program made ≡ Some (action.Evaluate number))
-        (target : ℕ) (bit : Bool) (is : slot_of nets (flat.inputs + number) ≡ Some target) (right : bit ≡ gate_bit (bit_by nets bits) (slice_get flat.cells number)) where
+        (target : ℕ) (bit : Bool) (is : net_slot nets (flat.inputs + number) ≡ Some target) (right : bit ≡ gate_bit (bit_by nets bits) (slice_get flat.cells number)) where
       found : (entry : Entry) × ((slice_get (entries_at node (timetable planned)) made ≡ Some entry) × (action.Evaluate number ≡ action_of flat.inputs entry))
       found = ⊎_elim (λ entry. entry) (λ last. absurd (no_step last.1)) (next_entry planned node made agree.holds.under (action.Evaluate number) at) where
         no_step : action.Evaluate number ≡ action.Step → ⊥
@@ -222,7 +222,7 @@ module _ (ends : SeenEnds) (node : ℕ) (code : Code) (is_code : IsCode (planned
     abbrev pub HasGone : ℕ → List SeenGate → ℕ → ℕ → List Bool → Type 0
     HasGone place gates made last bits =
         Agrees job node (known last (with_gates place gates bits)) ends
-        × GoesOn job node (known made bits) (known last (with_gates place gates bits)) ends ends (length gates)
+        × MakesActions job node (known made bits) (known last (with_gates place gates bits)) ends ends (length gates)
         × (left job node (known last (with_gates place gates bits)) + length gates ≡ left job node (known made bits))
 
     pub gates_go : (gates : List SeenGate) (place made last : ℕ) (bits : List Bool) → last ≡ made + length gates → length bits ≡ length nets → RunsOn made place gates → Agrees job node (known made bits) ends → HasGone place gates made last bits
@@ -230,7 +230,7 @@ module _ (ends : SeenEnds) (node : ℕ) (code : Code) (is_code : IsCode (planned
         let same : made ≡ last = omega (arith, is) in
         (subst (λ (at : ℕ). Agrees job node (known at bits) ends) same agree, (ap (λ (at : ℕ). known at bits) (sym same), refl), omega (arith, ap (λ (at : ℕ). left job node (known at bits)) same))
     gates_go (gate ∷ gates) place made last bits is size (number, at, table, rest) agree =
-        let bit = bit_of gate.truth_table (place_of (map (bit_in bits) gate.reads)) in
+        let bit = bit_of gate.truth_table (place_of (map (bit_at_slot bits) gate.reads)) in
         let right = table_bit number bits gate place table in
         let step = gate_steps made bits size agree number at place bit table.target right in
         let gone = gates_go gates (place + 1) (made + 1) last (set bits place bit) (omega (arith, is)) (length-set bits place bit ∙ size) rest (gate_agrees made bits size agree number at place bit table.target right) in

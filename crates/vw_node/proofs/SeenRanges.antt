@@ -6,8 +6,8 @@ use Rattle.std.proofs.lemmas.List.{get_or-map, length-drop, length-map, length-t
 use Rattle.vw_prog.specs.declared.gates.Gates.{Gates}
 use Rattle.vw_prog.specs.declared.gates.Gates.TheVariants.{Four, Six, Two}
 use Rattle.vw_prog.specs.declared.gates.TableGate.{TableGate}
-use Rattle.vw_prog.specs.SeenGates.{SeenGate, seen_gate, seen_gates}
-use Rattle.vw_node.specs.Slots.{IsWithin}
+use Rattle.vw_prog.specs.SeenGates.{seen_gate, seen_gates}
+use Rattle.vw_node.specs.Slots.{ReadsWithin}
 
 map_drop : {A B : Type 0} (f : A → B) (count : ℕ) (xs : List A) → drop count (map f xs) ≡ map f (drop count xs)
 map_drop f zero xs = refl
@@ -25,9 +25,9 @@ range_seen room gates first end = ap (take (end - first)) (map_drop (seen_gate r
 pub range_long : (room : ℕ) (gates : List (TableGate room)) (first end : ℕ) → first ≤ end → end ≤ length (map (seen_gate room) gates) → length (slice_range gates first end) ≡ end - first
 range_long room gates first end order within = omega (arith, order, within, length-map gates (seen_gate room), length-take (end - first) (drop first gates), length-drop first gates)
 
-pub gate_within : (room slots place : ℕ) (gates : List (TableGate room)) (gate : TableGate room) → All (IsWithin slots) (map (seen_gate room) gates) → place < length gates → gate ≡ get_or gates place gate → IsWithin slots (seen_gate room gate)
+pub gate_within : (room slots place : ℕ) (gates : List (TableGate room)) (gate : TableGate room) → All (ReadsWithin slots) (map (seen_gate room) gates) → place < length gates → gate ≡ get_or gates place gate → ReadsWithin slots (seen_gate room gate)
 gate_within room slots place gates gate all within is =
-    subst (IsWithin slots) (get_or-map (seen_gate room) gates place gate (seen_gate room gate) within ∙ ap (seen_gate room) (sym is)) (all place (seen_gate room gate) (omega (arith, within, length-map gates (seen_gate room))))
+    subst (ReadsWithin slots) (get_or-map (seen_gate room) gates place gate (seen_gate room gate) within ∙ ap (seen_gate room) (sym is)) (all place (seen_gate room gate) (omega (arith, within, length-map gates (seen_gate room))))
 
 pub seen_two : (gates : Gates) (list : Vec (TableGate 2)) (items : List (TableGate 2)) → gates ≡ Two list → items ≡ list.items → seen_gates gates ≡ map (seen_gate 2) items
 seen_two gates list items is are = ap seen_gates is ∙ ap (map (seen_gate 2)) (sym are)

@@ -16,7 +16,7 @@ use Rattle.vw_prog.specs.declared.code.Code.{Code}
 use Rattle.vw_prog.specs.declared.job.Job.{Job}
 use Rattle.vw_prog.specs.declared.job.Share.{Share}
 use Rattle.vw_prog.specs.Actions.{actions}
-use Rattle.vw_prog.specs.Codes.{IsCode, slot_of}
+use Rattle.vw_prog.specs.Codes.{IsCode, net_slot}
 use Rattle.vw_prog.specs.Due.{own_latches}
 use Rattle.vw_prog.specs.Scripts.{planned_of}
 use Rattle.vw_node.specs.Fits.{IsShare, bit_by, slot_bit}
@@ -156,10 +156,10 @@ module _ (job : Job) (node : ℕ) (code : Code) (is_code : IsCode (planned_of jo
           ∙ ap (slot_bit (line ++ drop (length line) bits)) (is_code.host host net inside) ∙ get_or_append_left line (drop (length line) bits) false net (omega (arith, inside, row_long clock line at))
       inner host (Some line) false at test =
           let from = ltb-false net flat.inputs test in
-          let past = λ (place : ℕ) (is : slot_of nets net ≡ Some place).
+          let past = λ (place : ℕ) (is : net_slot nets net ≡ Some place).
           ⊎_elim (λ (under : place < flat.inputs). let same : net ≡ place = slot_apart nets net place place is (is_code.host host place under) in let over : flat.inputs ≤ place = omega (arith, same, from) in over) (λ (over : flat.inputs ≤ place). over) (cases_lt place flat.inputs) in
           ap (λ (all : List Bool). bit_by nets all net) (row_put line bits (omega (arith, long, row_long clock line at, host_room host)))
-          ∙ found line (slot_of nets net) (row_long clock line at) past
+          ∙ found line (net_slot nets net) (row_long clock line at) past
 
       by : (host : Bool) → eqb node 0 ≡ host → bit_by nets (with_row (if host then slice_get job.rows clock else None) bits) net ≡ (if host && nat_lt net flat.inputs then input_bit (slice_get job.rows clock) net (before net) else before net)
       by true test = inner (eqb-true node 0 test) (slice_get job.rows clock) (nat_lt net flat.inputs) refl refl

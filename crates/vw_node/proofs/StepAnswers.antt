@@ -1,5 +1,5 @@
 -- What a try of a node comes to, by its next op.
-use Rattle.std.proofs.Common.{◌≡◌, ◌<◌, ◌≤◌, ◌+◌, ◌-◌, ℕ, Bool, true, false, List, length, get_or, set, drop, slice_get, if◌then◌else◌, ap, refl, sym, subst, ◌∙◌, ⊎_elim, Some, None, All, arith}
+use Rattle.std.proofs.Common.{◌≡◌, ◌<◌, ◌≤◌, ◌+◌, ◌-◌, ℕ, Bool, true, false, List, length, get_or, set, take, drop, slice_get, if◌then◌else◌, ap, refl, sym, subst, ◌∙◌, ⊎_elim, Some, None, All, arith}
 use Rattle.std.specs.Global.{Vec}
 use Rattle.std.specs.List.{slice_range}
 use Rattle.std.specs.Prelude.{slice_index_or, option_map}
@@ -22,22 +22,22 @@ use Rattle.vw_prog.specs.declared.shift.LoopNet.{LoopNet}
 use Rattle.vw_prog.specs.declared.shift.ShiftLoop.{ShiftLoop}
 use Rattle.vw_prog.specs.declared.word.Word.{Word}
 use Rattle.vw_prog.specs.Actions.{action_of, actions}
-use Rattle.vw_prog.specs.Codes.{BeginsWith, IsWideGate, slot_of}
-use Rattle.vw_prog.specs.Ends.{IsExpected, IsNextWord, Puts, SeenEnds, Takes, counted}
-use Rattle.vw_prog.specs.Loops.{Stand, nets_of, place_after}
+use Rattle.vw_prog.specs.Codes.{BeginsWithAction, IsWideGate, net_slot}
+use Rattle.vw_prog.specs.Ends.{IsExpected, IsNextWord, Puts, SeenEnds, Takes, counted_at}
+use Rattle.vw_prog.specs.Loops.{Stand, loop_nets, place_after}
 use Rattle.vw_prog.specs.Scripts.{planned_of}
 use Rattle.vw_prog.specs.SeenGates.{SeenGate, seen_gates}
 use Rattle.vw_prog.specs.Timetable.{entries_at, timetable}
 use Rattle.vw_prog.proofs.LoopTurns.{net_here, place_inside, stand_on, stand_turned}
 use Rattle.vw_node.specs.declared.node.Node.{Node}
 use Rattle.vw_node.specs.declared.step.Step.TheVariants.{Empty, Full, Moved}
-use Rattle.vw_node.specs.Fits.{IsFit, bit_by, slot_bit, state_of}
+use Rattle.vw_node.specs.Fits.{FitsJob, bit_by, slot_bit, state_of}
 use Rattle.vw_node.specs.Lists.{tabulate}
 use Rattle.vw_node.specs.Moves.{MakesSome, Steps}
 use Rattle.vw_node.specs.Positions.{Agrees}
-use Rattle.vw_node.specs.Slots.{HasArity, IsWithin, wide_by, with_gates}
+use Rattle.vw_node.specs.Slots.{HasArity, ReadsWithin, wide_by, with_gates}
 use Rattle.vw_node.specs.Starts.{net_count}
-use Rattle.vw_node.specs.States.{NodeState, gate_bit, moved, slot, written}
+use Rattle.vw_node.specs.States.{NodeState, gate_bit, moved_on, slot, written}
 use Rattle.vw_node.proofs.EntryKinds.{next_entry, sends, takes}
 use Rattle.vw_node.proofs.MovesOn.{makes_many, makes_none, makes_one}
 use Rattle.vw_node.proofs.NodeSteps.{is_expected, next_of, sent_agrees, sent_net, sent_next, taken_agrees, taken_net}
@@ -45,7 +45,7 @@ use Rattle.vw_node.proofs.OpActions.{HasGone, RunsOn, gate_agrees, gate_steps, g
 use Rattle.vw_node.proofs.SlotBits.{known_written, slot_within, slots_within}
 use Rattle.vw_node.proofs.Values.{get_or-tabulate}
 
-module _ (ends : SeenEnds) (old : Node) (fits : IsFit ends.job old) (agrees : Agrees ends.job old.share.node (state_of old) ends) (differ : old.clock ≡ old.share.clocks → ⊥) where
+module _ (ends : SeenEnds) (old : Node) (fits : FitsJob ends.job old) (agrees : Agrees ends.job old.share.node (state_of old) ends) (differ : old.clock ≡ old.share.clocks → ⊥) where
   abbrev job : Job
   job = ends.job
 
@@ -75,7 +75,7 @@ module _ (ends : SeenEnds) (old : Node) (fits : IsFit ends.job old) (agrees : Ag
 
   -- the node with these bits, when so many actions are made
   abbrev known_now : ℕ → List Bool → NodeState
-  known_now made bits = record { clock = old.clock; made = made; slots = tabulate (bit_by nets bits) many; rows = old.rows.items }
+  known_now made bits = record { clock = old.clock; made = made; slots = tabulate (bit_by nets bits) many; rows = take old.clock old.rows }
 
   pub many_are : many ≡ flat.inputs + length flat.cells
   many_are = ap (λ (checked : Checked). checked.ordered.flat.inputs + length checked.ordered.flat.cells) fits.share.checked
@@ -100,11 +100,11 @@ module _ (ends : SeenEnds) (old : Node) (fits : IsFit ends.job old) (agrees : Ag
   loops = code.loops.items
 
   -- what a node has stays, as long as there are as many slots, and its loops stand as its actions have turned them
-  fits_then : (made : ℕ) (places : Vec ℕ) (slots : Vec Bool) → Stand program loops made places.items → length slots.items ≡ length old.slots.items → IsFit job (record old { made = made; places = places; slots = slots })
-  fits_then made places slots stand long = record { share = fits.share; code = fits.code; loops = stand; slots = long ∙ fits.slots; next = fits.next; spare = fits.spare; even = fits.even; room = fits.room }
+  fits_then : (made : ℕ) (places : Vec ℕ) (slots : Vec Bool) → Stand program loops made places.items → length slots.items ≡ length old.slots.items → FitsJob job (record old { made = made; places = places; slots = slots })
+  fits_then made places slots stand long = record { share = fits.share; code = fits.code; loops = stand; slots = long ∙ fits.slots; next = fits.next; count = fits.count; wide = fits.wide }
 
-  fits_again : (new : Node) (made : ℕ) → new ≡ record old { made = made; slots = new.slots } → Stand program loops made old.places.items → length new.slots.items ≡ length old.slots.items → IsFit job new
-  fits_again new made rest stand long = subst (IsFit job) (sym rest) (fits_then made old.places new.slots stand long)
+  fits_again : (new : Node) (made : ℕ) → new ≡ record old { made = made; slots = new.slots } → Stand program loops made old.places.items → length new.slots.items ≡ length old.slots.items → FitsJob job new
+  fits_again new made rest stand long = subst (FitsJob job) (sym rest) (fits_then made old.places new.slots stand long)
 
   -- an answer about a node and its ends that are as they were is one about these
   pub moved_to : (new : Node) (state_then : NodeState) (after : SeenEnds) → new.share ≡ old.share → state_of new ≡ state_then → Agrees job node state_then after → Agrees job new.share.node (state_of new) after
@@ -140,8 +140,8 @@ module _ (ends : SeenEnds) (old : Node) (fits : IsFit ends.job old) (agrees : Ag
     pub run_last : stop ≤ length (seen_gates code.gates)
     run_last = runs.1
 
-    pub run_within : All (IsWithin (length old.slots.items)) gates
-    run_within = subst (λ (count : ℕ). All (IsWithin count) gates) (sym fits.slots) (All-from_recursion (IsWithin (length nets)) gates (runs_within ends node code fits.code old.made place gates runs.0))
+    pub run_within : All (ReadsWithin (length old.slots.items)) gates
+    run_within = subst (λ (count : ℕ). All (ReadsWithin count) gates) (sym fits.slots) (All-from_recursion (ReadsWithin (length nets)) gates (runs_within ends node code fits.code old.made place gates runs.0))
 
     gates_long : length gates ≡ stop - first
     gates_long = omega (arith, run_last, length-take (stop - first) (drop first (seen_gates code.gates)), length-drop first (seen_gates code.gates))
@@ -156,10 +156,10 @@ module _ (ends : SeenEnds) (old : Node) (fits : IsFit ends.job old) (agrees : Ag
       run_state : state_of new ≡ known_now (old.made + (stop - first)) (with_gates place gates old.slots.items)
       run_state = state_then new (old.made + (stop - first)) (with_gates place gates old.slots.items) rest wrote
 
-      gone : HasGone ends node code fits.code old.clock many old.rows.items many_are unfinished place gates old.made (old.made + (stop - first)) old.slots.items
-      gone = gates_go ends node code fits.code old.clock many old.rows.items many_are unfinished gates place old.made (old.made + (stop - first)) old.slots.items (omega (arith, gates_long)) fits.slots runs.0 agrees
+      gone : HasGone ends node code fits.code old.clock many (take old.clock old.rows) many_are unfinished place gates old.made (old.made + (stop - first)) old.slots.items
+      gone = gates_go ends node code fits.code old.clock many (take old.clock old.rows) many_are unfinished gates place old.made (old.made + (stop - first)) old.slots.items (omega (arith, gates_long)) fits.slots runs.0 agrees
 
-      pub run_fits : IsFit job new
+      pub run_fits : FitsJob job new
       run_fits =
           let many_gates : old.made + length gates ≡ old.made + (stop - first) = ap (λ (count : ℕ). old.made + count) gates_long in
           fits_again new (old.made + (stop - first)) rest
@@ -180,9 +180,9 @@ module _ (ends : SeenEnds) (old : Node) (fits : IsFit ends.job old) (agrees : Ag
   -- ---- a gate by its rows
 
   module _ (default : Op) (place : ℕ) (is : get_or code.ops.items old.made default ≡ op.Wide place) where
-    pub wide_gate : (number : ℕ) × (slice_get (actions planned node) old.made ≡ Some (action.Evaluate number)) × BeginsWith flat code (action.Evaluate number) (op.Wide place)
+    pub wide_gate : (number : ℕ) × (slice_get (actions planned node) old.made ≡ Some (action.Evaluate number)) × BeginsWithAction flat code (action.Evaluate number) (op.Wide place)
     wide_gate = let found = op_begins ends node code fits.code old.made (op.Wide place) (op_is default (op.Wide place) is) in by found.0 found.1.0 found.1.1 where
-      by : (next : Action) → slice_get (actions planned node) old.made ≡ Some next → BeginsWith flat code next (op.Wide place) → (number : ℕ) × (slice_get (actions planned node) old.made ≡ Some (action.Evaluate number)) × BeginsWith flat code (action.Evaluate number) (op.Wide place)
+      by : (next : Action) → slice_get (actions planned node) old.made ≡ Some next → BeginsWithAction flat code next (op.Wide place) → (number : ℕ) × (slice_get (actions planned node) old.made ≡ Some (action.Evaluate number)) × BeginsWithAction flat code (action.Evaluate number) (op.Wide place)
       by (action.Evaluate number) at begins = (number, at, begins)
       by (action.Send link pin net) at begins = absurd begins
       by (action.Take link pin net) at begins = absurd begins
@@ -214,19 +214,19 @@ module _ (ends : SeenEnds) (old : Node) (fits : IsFit ends.job old) (agrees : Ag
         right : bit ≡ gate_bit (bit_by nets old.slots.items) (slice_get flat.cells wide_gate.0)
         right = bit_is ∙ ap (λ (one : Flat). wide_by (slice_get one.cells gate.number) old.slots.items gate.reads) flat_is ∙ wide_is ends node code fits.code wide_gate.0 old.slots.items gate is_gate
 
-        pub wide_fits : IsFit job new
+        pub wide_fits : FitsJob job new
         wide_fits = fits_again new (old.made + 1) rest (stand_on program loops old.made old.places.items fits.loops (action.Evaluate wide_gate.0) wide_gate.1 (λ link pin. refl)) (ap (λ (bits : List Bool). length bits) wrote ∙ length-set old.slots.items gate.target bit)
 
         pub wide_agrees : Agrees job new.share.node (state_of new) ends
         wide_agrees =
             moved_to new (known_now (old.made + 1) (set old.slots.items gate.target bit)) ends (ap (λ (one : Node). one.share) rest) wide_state
-            (gate_agrees ends node code fits.code old.clock many old.rows.items many_are unfinished old.made old.slots.items fits.slots agrees wide_gate.0 wide_gate.1 gate.target bit is_gate.target right)
+            (gate_agrees ends node code fits.code old.clock many (take old.clock old.rows) many_are unfinished old.made old.slots.items fits.slots agrees wide_gate.0 wide_gate.1 gate.target bit is_gate.target right)
 
         pub wide_makes : (whole : Bool) → MakesSome job node state (state_of new) ends ends whole Moved
         wide_makes whole =
             makes_one job node state (state_of new) ends ends whole
             (subst (λ (one : NodeState). Steps job node state one ends ends Moved) (sym wide_state)
-            (gate_steps ends node code fits.code old.clock many old.rows.items many_are unfinished old.made old.slots.items fits.slots agrees wide_gate.0 wide_gate.1 gate.target bit is_gate.target right))
+            (gate_steps ends node code fits.code old.clock many (take old.clock old.rows) many_are unfinished old.made old.slots.items fits.slots agrees wide_gate.0 wide_gate.1 gate.target bit is_gate.target right))
             agrees.holds
 
   -- the entry of an action that isn't the step
@@ -239,7 +239,7 @@ module _ (ends : SeenEnds) (old : Node) (fits : IsFit ends.job old) (agrees : Ag
     -- the loop, and the action
     sending : (one : ShiftLoop) × (net : ℕ) × (slice_get loops at ≡ Some one) × (slice_get program old.made ≡ Some (action.Send one.link one.pin net))
     sending = let found = op_begins ends node code fits.code old.made (op.Send at) (op_is default (op.Send at) is) in by found.0 found.1.0 found.1.1 where
-      by : (next : Action) → slice_get program old.made ≡ Some next → BeginsWith flat code next (op.Send at) → (one : ShiftLoop) × (net : ℕ) × (slice_get loops at ≡ Some one) × (slice_get program old.made ≡ Some (action.Send one.link one.pin net))
+      by : (next : Action) → slice_get program old.made ≡ Some next → BeginsWithAction flat code next (op.Send at) → (one : ShiftLoop) × (net : ℕ) × (slice_get loops at ≡ Some one) × (slice_get program old.made ≡ Some (action.Send one.link one.pin net))
       by (action.Evaluate number) there begins = absurd begins
       by (action.Send link pin net) there begins =
           let same : action.Send link pin net ≡ action.Send begins.0.link begins.0.pin net = λ i. action.Send (sym begins.2 i) (sym begins.3 i) net in
@@ -275,13 +275,13 @@ module _ (ends : SeenEnds) (old : Node) (fits : IsFit ends.job old) (agrees : Ag
       send_inside = subst (λ (spot : ℕ). spot < length one.nets) (sym stands) (place_inside program loops old.made old.places.items fits.loops fits.code.loops link one.pin sent at one next_send there (sym link_is) refl)
 
       -- its net is that of the loop, and has the slot that stands there
-      item_is : (item : LoopNet) → slice_get one.nets place ≡ Some item → (item.net ≡ sent) × (slot_of nets sent ≡ Some item.slot)
+      item_is : (item : LoopNet) → slice_get one.nets place ≡ Some item → (item.net ≡ sent) × (net_slot nets sent ≡ Some item.slot)
       item_is item here =
-          let found : slice_get (nets_of one) place ≡ Some sent = ap (slice_get (nets_of one)) stands ∙ net_here program loops old.made old.places.items fits.loops fits.code.loops link one.pin sent at one next_send there (sym link_is) refl in
-          let mapped : slice_get (nets_of one) place ≡ Some item.net = slice_get-map (λ (item : LoopNet). item.net) one.nets place ∙ ap (option_map (λ (item : LoopNet). item.net)) here in
+          let found : slice_get (loop_nets one) place ≡ Some sent = ap (slice_get (loop_nets one)) stands ∙ net_here program loops old.made old.places.items fits.loops fits.code.loops link one.pin sent at one next_send there (sym link_is) refl in
+          let mapped : slice_get (loop_nets one) place ≡ Some item.net = slice_get-map (λ (item : LoopNet). item.net) one.nets place ∙ ap (option_map (λ (item : LoopNet). item.net)) here in
           let same : item.net ≡ sent = cc (found, mapped) in
-          let its_slot : slot_of nets item.net ≡ Some item.slot = subst (λ (own : LoopNet). slot_of nets own.net ≡ Some own.slot) (get_or_from_slice_get one.nets place item item here) (fits.code.sends at one there place item send_inside) in
-          (same, ap (slot_of nets) (sym same) ∙ its_slot)
+          let its_slot : net_slot nets item.net ≡ Some item.slot = subst (λ (own : LoopNet). net_slot nets own.net ≡ Some own.slot) (get_or_from_slice_get one.nets place item item here) (fits.code.sends at one there place item send_inside) in
+          (same, ap (net_slot nets) (sym same) ∙ its_slot)
 
       module _ (item : LoopNet) (here : slice_get one.nets place ≡ Some item) where
         pub send_slot : item.slot < length old.slots.items
@@ -303,15 +303,15 @@ module _ (ends : SeenEnds) (old : Node) (fits : IsFit ends.job old) (agrees : Ag
         stand_now : Stand program loops (old.made + 1) new.places.items
         stand_now = stand_turned program loops old.made old.places.items fits.loops fits.code.loops link one.pin sent at one next_send there (sym link_is) refl new.places.items (turned ∙ ap (λ (spot : ℕ). set old.places.items at (place_after (length one.nets) (spot + 1))) stands)
 
-        pub send_fits : IsFit after.job new
-        send_fits = subst (λ (one : SeenEnds). IsFit one.job new) (sym puts.ends) (subst (IsFit job) (sym rest) (fits_then (old.made + 1) new.places old.slots stand_now refl))
+        pub send_fits : FitsJob after.job new
+        send_fits = subst (λ (one : SeenEnds). FitsJob one.job new) (sym puts.ends) (subst (FitsJob job) (sym rest) (fits_then (old.made + 1) new.places old.slots stand_now refl))
 
         pub send_agrees : Agrees after.job new.share.node (state_of new) after
         send_agrees =
             let found = entry_of_send in
             let kind = sends flat.inputs link one.pin sent found.0 found.1.1 in
             let agree = sent_agrees ends node state agrees unfinished found.0 found.1.0 link one.pin sent kind.0 kind.1 kind.2 kind.3 in
-            let so = moved_to new (moved state) (record ends { sent = counted link ends.sent }) (ap (λ (one : Node). one.share) rest) (ap state_of rest) agree in
+            let so = moved_to new (moved_on state) (record ends { sent = counted_at link ends.sent }) (ap (λ (one : Node). one.share) rest) (ap state_of rest) agree in
             subst (λ (one : SeenEnds). Agrees one.job new.share.node (state_of new) one) (sym puts.ends) so
 
         pub send_makes : (whole : Bool) → MakesSome job node state (state_of new) ends after whole Moved
@@ -323,9 +323,9 @@ module _ (ends : SeenEnds) (old : Node) (fits : IsFit ends.job old) (agrees : Ag
   -- ---- a take
 
   module _ (default : Op) (link pin place : ℕ) (is : get_or code.ops.items old.made default ≡ op.Take link pin place) where
-    taking : (net : ℕ) × (slice_get program old.made ≡ Some (action.Take link pin net)) × (slot_of nets net ≡ Some place)
+    taking : (net : ℕ) × (slice_get program old.made ≡ Some (action.Take link pin net)) × (net_slot nets net ≡ Some place)
     taking = let found = op_begins ends node code fits.code old.made (op.Take link pin place) (op_is default (op.Take link pin place) is) in by found.0 found.1.0 found.1.1 where
-      by : (next : Action) → slice_get program old.made ≡ Some next → BeginsWith flat code next (op.Take link pin place) → (net : ℕ) × (slice_get program old.made ≡ Some (action.Take link pin net)) × (slot_of nets net ≡ Some place)
+      by : (next : Action) → slice_get program old.made ≡ Some next → BeginsWithAction flat code next (op.Take link pin place) → (net : ℕ) × (slice_get program old.made ≡ Some (action.Take link pin net)) × (net_slot nets net ≡ Some place)
       by (action.Evaluate number) at begins = absurd begins
       by (action.Send its_link its_pin its_net) at begins = absurd begins
       by (action.Take its_link its_pin its_net) at begins =
@@ -352,18 +352,18 @@ module _ (ends : SeenEnds) (old : Node) (fits : IsFit ends.job old) (agrees : Ag
       take_state : state_of new ≡ written state net word.bit
       take_state =
           state_then new (old.made + 1) (set old.slots.items place bit) rest wrote
-          ∙ ap (λ (all : List Bool). let state : NodeState = record { clock = old.clock; made = old.made + 1; slots = all; rows = old.rows.items } in state)
+          ∙ ap (λ (all : List Bool). let state : NodeState = record { clock = old.clock; made = old.made + 1; slots = all; rows = take old.clock old.rows } in state)
           (known_written nets old.slots.items net place bit many taking.2 take_slot (omega (arith, take_net, agrees.holds.size, many_are)) ∙ ap (set (tabulate (bit_by nets old.slots.items) many) net) its_bit)
 
-      pub take_fits : IsFit after.job new
-      take_fits = subst (λ (one : SeenEnds). IsFit one.job new) (sym took.0) (fits_again new (old.made + 1) rest (stand_on program loops old.made old.places.items fits.loops (action.Take link pin net) taking.1 (λ its other. refl)) (ap (λ (bits : List Bool). length bits) wrote ∙ length-set old.slots.items place bit))
+      pub take_fits : FitsJob after.job new
+      take_fits = subst (λ (one : SeenEnds). FitsJob one.job new) (sym took.0) (fits_again new (old.made + 1) rest (stand_on program loops old.made old.places.items fits.loops (action.Take link pin net) taking.1 (λ its other. refl)) (ap (λ (bits : List Bool). length bits) wrote ∙ length-set old.slots.items place bit))
 
       pub take_agrees : Agrees after.job new.share.node (state_of new) after
       take_agrees =
           let found = entry_of_take in
           let kind = takes flat.inputs link pin net found.0 found.1.1 in
           let agree = taken_agrees ends node state agrees unfinished found.0 found.1.0 link net kind.0 kind.1 kind.2 word took.1 in
-          let so = moved_to new (written state net word.bit) (record ends { taken = counted link ends.taken }) (ap (λ (one : Node). one.share) rest) take_state agree in
+          let so = moved_to new (written state net word.bit) (record ends { taken = counted_at link ends.taken }) (ap (λ (one : Node). one.share) rest) take_state agree in
           subst (λ (one : SeenEnds). Agrees one.job new.share.node (state_of new) one) (sym took.0) so
 
       pub take_makes : (whole : Bool) → MakesSome job node state (state_of new) ends after whole Moved

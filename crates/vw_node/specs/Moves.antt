@@ -9,12 +9,12 @@ use Rattle.vw_prog.specs.Scripts.{planned_of}
 use Rattle.vw_node.specs.declared.step.Step.{Step}
 use Rattle.vw_node.specs.declared.step.Step.TheVariants.{Done, Empty, Full, Moved}
 use Rattle.vw_node.specs.Left.{left}
-use Rattle.vw_node.specs.States.{NodeState, evaluated, moved, next_action, stepped, written}
+use Rattle.vw_node.specs.States.{NodeState, evaluated, moved_on, next_action, stepped, written}
 
 -- the node made an action
 abbrev pub Makes : Job → ℕ → NodeState → NodeState → SeenEnds → SeenEnds → Action → Type 0
 Makes job node old new before after (action.Evaluate gate) = (new ≡ evaluated (planned_of job) gate old) × (after ≡ before)
-Makes job node old new before after (action.Send link pin net) = (new ≡ moved old) × Puts link before after true
+Makes job node old new before after (action.Send link pin net) = (new ≡ moved_on old) × Puts link before after true
 Makes job node old new before after (action.Take link pin net) = (word : Word) × (new ≡ written old net word.bit) × Takes link before after (Some word)
 Makes job node old new before after action.Step = (new ≡ stepped job node old) × (after ≡ before)
 
@@ -33,22 +33,22 @@ is_moved (Empty link) = false
 is_moved Done = false
 
 -- so many actions were made, one after the other
-abbrev pub GoesOn : Job → ℕ → NodeState → NodeState → SeenEnds → SeenEnds → ℕ → Type 0
-GoesOn job node old new before after zero = (new ≡ old) × (after ≡ before)
-GoesOn job node old new before after (suc count) = (between : NodeState) × (ends : SeenEnds) × GoesOn job node old between before ends count × Steps job node between new ends after Moved
+abbrev pub MakesActions : Job → ℕ → NodeState → NodeState → SeenEnds → SeenEnds → ℕ → Type 0
+MakesActions job node old new before after zero = (new ≡ old) × (after ≡ before)
+MakesActions job node old new before after (suc count) = (between : NodeState) × (ends : SeenEnds) × MakesActions job node old between before ends count × Steps job node between new ends after Moved
 
 -- a node made actions until one was refused or none was left
 pub record Goes (job : Job) (node : ℕ) (old new : NodeState) (before after : SeenEnds) (answer : Step) : Type 0 where
   pub count : ℕ
   pub between : NodeState
   pub ends : SeenEnds
-  pub moves : GoesOn job node old between before ends count
+  pub moves : MakesActions job node old between before ends count
   pub last : Steps job node between new ends after answer
   pub stops : is_moved answer ≡ false
 
 -- a node made one action or more, or none; and no more than one where the run wasn't to be whole
 pub record MakesSome (job : Job) (node : ℕ) (old new : NodeState) (before after : SeenEnds) (whole : Bool) (answer : Step) : Type 0 where
   pub one : whole ≡ false → Steps job node old new before after answer
-  pub some : is_moved answer ≡ true → (count : ℕ) × GoesOn job node old new before after (suc count)
+  pub some : is_moved answer ≡ true → (count : ℕ) × MakesActions job node old new before after (suc count)
   pub fewer : is_moved answer ≡ true → left job node new < left job node old
   pub none : is_moved answer ≡ false → Steps job node old new before after answer

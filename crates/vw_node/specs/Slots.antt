@@ -8,18 +8,18 @@ use Rattle.vw_net.specs.Cover.{cover_value}
 use Rattle.vw_net.specs.TruthTable.{bit_of, place_of}
 use Rattle.vw_prog.specs.declared.job.Share.{Share}
 use Rattle.vw_prog.specs.SeenGates.{SeenGate}
-use Rattle.vw_node.specs.Fits.{bit_in}
+use Rattle.vw_node.specs.Fits.{bit_at_slot}
 
 -- ---- gates
 
 -- a gate reads slots that there are
-abbrev pub IsWithin : ℕ → SeenGate → Type 0
-IsWithin slots gate = All (λ slot. slot < slots) gate.reads
+abbrev pub ReadsWithin : ℕ → SeenGate → Type 0
+ReadsWithin slots gate = All (λ slot. slot < slots) gate.reads
 
 -- bits after gates were worked out, one after the other, into slots from one on
 abbrev pub with_gates : ℕ → List SeenGate → List Bool → List Bool
 with_gates slot [] bits = bits
-with_gates slot (gate ∷ gates) bits = with_gates (slot + 1) gates (slice_set bits slot (bit_of gate.truth_table (place_of (map (bit_in bits) gate.reads))))
+with_gates slot (gate ∷ gates) bits = with_gates (slot + 1) gates (slice_set bits slot (bit_of gate.truth_table (place_of (map (bit_at_slot bits) gate.reads))))
 
 -- a gate has as many reads as its cover has inputs
 abbrev pub HasArity : Option Cell → List ℕ → Type 0
@@ -30,7 +30,7 @@ HasArity (Some (Latch d init)) reads = IsTrue true
 -- what a gate makes of the bits of its reads
 abbrev pub wide_by : Option Cell → List Bool → List ℕ → Bool
 wide_by None bits reads = false
-wide_by (Some (Gate ins cover)) bits reads = cover_value cover (map (bit_in bits) reads)
+wide_by (Some (Gate ins cover)) bits reads = cover_value cover (map (bit_at_slot bits) reads)
 wide_by (Some (Latch d init)) bits reads = false
 
 -- ---- sources

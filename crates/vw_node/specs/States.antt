@@ -29,8 +29,8 @@ slot state net = slice_index_or state.slots net false
 -- ---- actions
 
 -- an action that changes no slot
-abbrev pub moved : NodeState → NodeState
-moved state = record state { made = state.made + 1 }
+abbrev pub moved_on : NodeState → NodeState
+moved_on state = record state { made = state.made + 1 }
 
 -- an action that puts a bit into the slot of a net
 abbrev pub written : NodeState → ℕ → Bool → NodeState

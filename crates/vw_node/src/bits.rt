@@ -1,29 +1,17 @@
 //! Bits that go between rows and slots.
 ghost use Rattle.std.specs.Prelude.{◌≡◌, ◌<◌, Some, length, map};
 ghost use Rattle.std.specs.List.{All};
-ghost use Rattle.vw_node.specs.Fits.{bit_in};
+ghost use Rattle.vw_node.specs.Fits.{bit_at_slot};
 ghost use Rattle.vw_net.specs.Steps.WrittenBits.{with_bits};
 ghost use Rattle.vw_node.specs.Slots.{row_at, with_row};
 
-use vw_net::Bits;
 use vw_prog::Share;
-
-/// Puts the bits of these slots into a row.
-pub fn put_row(reads: &[u32], slots: &[bool], row: &mut Bits)
-    requires long { length row.old ≡ length reads.now }
-    requires within { All (λ slot. slot < length slots.now) reads.now }
-    ensures { row.new ≡ map (bit_in slots.now) reads.now }
-{
-    for (i, slot) in reads.iter().enumerate() {
-        row.set(i, slots[*slot as usize]);
-    }
-}
 
 /// Puts the bits of these slots into a list.
 pub fn take_bits(reads: &[u32], slots: &[bool], bits: &mut [bool])
     requires long { length bits.old ≡ length reads.now }
     requires within { All (λ slot. slot < length slots.now) reads.now }
-    ensures { bits.new ≡ map (bit_in slots.now) reads.now }
+    ensures { bits.new ≡ map (bit_at_slot slots.now) reads.now }
 {
     for (i, slot) in reads.iter().enumerate() {
         bits[i] = slots[*slot as usize];
@@ -56,8 +44,8 @@ pub fn put_inputs(share: &Share, clock: u64, slots: &mut [bool])
     ensures { slots.new ≡ with_row (row_at share.now clock) slots.old }
 {
     if let Some(rows) = share.rows {
-        if let Some(row) = rows.as_slice().get(clock as usize) {
-            put_first(row.as_slice(), slots);
+        if (clock as usize) < rows.len() {
+            put_first(rows.row(clock as usize), slots);
         }
     }
 }

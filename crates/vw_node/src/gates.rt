@@ -4,8 +4,8 @@ ghost use Rattle.std.specs.List.{All, slice_range};
 ghost use Rattle.vw_prog.specs.SeenGates.{seen_gate, seen_gates};
 ghost use Rattle.vw_net.specs.Cover.{cover_value};
 ghost use Rattle.vw_net.specs.TruthTable.{place_of};
-ghost use Rattle.vw_node.specs.Fits.{bit_in};
-ghost use Rattle.vw_node.specs.Slots.{HasArity, IsWithin, wide_by, with_gates};
+ghost use Rattle.vw_node.specs.Fits.{bit_at_slot};
+ghost use Rattle.vw_node.specs.Slots.{HasArity, ReadsWithin, wide_by, with_gates};
 
 use vw_net::{Cell, Cover, Flat, bit_of};
 use vw_prog::{Gates, TableGate, WideGate};
@@ -14,7 +14,7 @@ use vw_prog::{Gates, TableGate, WideGate};
 fn place_at(reads: &[u32], slots: &[bool]) -> u32
     requires few { length reads.now ≤ 6 }
     requires within { All (λ slot. slot < length slots.now) reads.now }
-    ensures place { result ≡ place_of (map (bit_in slots.now) reads.now) }
+    ensures place { result ≡ place_of (map (bit_at_slot slots.now) reads.now) }
     ensures below { result < 64 }
 {
     let mut place = 0;
@@ -27,7 +27,7 @@ fn place_at(reads: &[u32], slots: &[bool]) -> u32
 /// Works out gates, one after the other, into slots from one on.
 fn run_all<const N: usize>(gates: &[TableGate<N>], first: usize, slots: &mut [bool])
     requires few { N ≤ 6 }
-    requires within { All (IsWithin (length slots.old)) (map (seen_gate N) gates.now) }
+    requires within { All (ReadsWithin (length slots.old)) (map (seen_gate N) gates.now) }
     requires room { first + length gates.now ≤ length slots.old }
     ensures { slots.new ≡ with_gates first (map (seen_gate N) gates.now) slots.old }
 {
@@ -48,7 +48,7 @@ fn run_part<const N: usize>(
     requires few { N ≤ 6 }
     requires order { first ≤ end }
     requires end { end ≤ length (map (seen_gate N) gates.now) }
-    requires within { All (IsWithin (length slots.old))
+    requires within { All (ReadsWithin (length slots.old))
         (slice_range (map (seen_gate N) gates.now) first end) }
     requires room { slot + (end - first) ≤ length slots.old }
     ensures { slots.new
@@ -61,7 +61,7 @@ fn run_part<const N: usize>(
 pub fn run_gates(gates: &Gates, first: usize, end: usize, slot: usize, slots: &mut [bool])
     requires order { first ≤ end }
     requires end { end ≤ length (seen_gates gates.now) }
-    requires within { All (IsWithin (length slots.old))
+    requires within { All (ReadsWithin (length slots.old))
         (slice_range (seen_gates gates.now) first end) }
     requires room { slot + (end - first) ≤ length slots.old }
     ensures { slots.new
@@ -78,7 +78,7 @@ pub fn run_gates(gates: &Gates, first: usize, end: usize, slot: usize, slots: &m
 fn gather(reads: &[u32], slots: &[bool], bits: &mut [bool])
     requires room { length reads.now ≤ length bits.old }
     requires within { All (λ slot. slot < length slots.now) reads.now }
-    ensures { take (length reads.now) bits.new ≡ map (bit_in slots.now) reads.now }
+    ensures { take (length reads.now) bits.new ≡ map (bit_at_slot slots.now) reads.now }
 {
     for (i, slot) in reads.iter().enumerate() {
         bits[i] = slots[*slot as usize];
@@ -89,7 +89,7 @@ fn gather(reads: &[u32], slots: &[bool], bits: &mut [bool])
 fn wide_value(reads: &[u32], cover: &Cover, slots: &[bool]) -> bool
     requires arity { length reads.now ≡ cover.now.inputs }
     requires within { All (λ slot. slot < length slots.now) reads.now }
-    ensures { result ≡ cover_value cover.now (map (bit_in slots.now) reads.now) }
+    ensures { result ≡ cover_value cover.now (map (bit_at_slot slots.now) reads.now) }
 {
     let mut bits = [false; 128];
     gather(reads, slots, &mut bits);

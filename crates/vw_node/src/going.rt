@@ -1,6 +1,6 @@
 //! Many actions of a node.
 ghost use Rattle.std.specs.Prelude.{◌≡◌};
-ghost use Rattle.vw_node.specs.Fits.{IsFit, state_of};
+ghost use Rattle.vw_node.specs.Fits.{FitsJob, state_of};
 ghost use Rattle.vw_node.specs.Moves.{Goes};
 ghost use Rattle.vw_node.specs.Positions.{Agrees};
 
@@ -14,12 +14,12 @@ impl<'a> Node<'a> {
     pub fn go<E: Ends>(&mut self, ends: &mut E) -> Step
         // The node is one of the ends' job, has what it needs for it, and stands where they do; its slots have the values that they
         // have to have.
-        requires fits { IsFit (E.seen ends.old).job self.old }
+        requires fits { FitsJob (E.seen ends.old).job self.old }
         requires agrees { Agrees (E.seen ends.old).job self.old.share.node (state_of self.old)
             (E.seen ends.old) }
 
         // All this holds again.
-        ensures fits { IsFit (E.seen ends.new).job self.new }
+        ensures fits { FitsJob (E.seen ends.new).job self.new }
         ensures agrees { Agrees (E.seen ends.new).job self.new.share.node (state_of self.new)
             (E.seen ends.new) }
         ensures same { self.new.share ≡ self.old.share }

@@ -13,5 +13,4 @@ mod stepping;
 
 pub use laws::values_are_held;
 pub use node::Node;
-pub use starting::spare_rows;
 pub use step::Step;

@@ -1,15 +1,15 @@
 //! Nodes are made.
 ghost use Rattle.std.specs.Prelude.{◌≡◌, ◌<◌, length, slice_index, IfOk};
 ghost use Rattle.vw_prog.specs.Actions.{ArePrograms};
-ghost use Rattle.vw_node.specs.Fits.{bit_by, bit_in, state_of};
+ghost use Rattle.vw_node.specs.Fits.{bit_by, bit_at_slot, state_of};
 ghost use Rattle.vw_node.specs.Made.{IsMade};
 ghost use Rattle.vw_node.specs.Starts.{planned_in};
 ghost use Rattle.vw_node.specs.States.{slot};
 
 use crate::node::Node;
-use crate::starting::{spare_rows, start_slots};
+use crate::starting::start_slots;
 use std::alloc::{AllocError, Global};
-use vw_net::Bits;
+use vw_net::Rows;
 use vw_prog::{Programs, Share};
 
 impl<'a> Node<'a> {
@@ -22,8 +22,7 @@ impl<'a> Node<'a> {
         let places = vec![in alloc; 0; code.loops.len()]?;
         let slots = start_slots(alloc, &share, code)?;
         let next = vec![in alloc; false; code.latches.len()]?;
-        let rows = Vec::with_capacity(alloc, share.clocks as usize)?;
-        let spare = spare_rows(alloc, share.clocks, code.records.len())?;
+        let rows = Rows::blank(alloc, share.clocks as usize, code.records.len())?;
         Ok(Node {
             share,
             code,
@@ -33,21 +32,20 @@ impl<'a> Node<'a> {
             slots,
             next,
             rows,
-            spare,
         })
     }
 
-    /// What it has recorded: for each clock finished so far the outputs, or the chip's latches before their step. It takes no
-    /// memory.
-    pub fn rows(&self) -> &[Bits]
-        ensures { result.now ≡ self.now.rows.items }
+    /// A row for each clock. Those of the clocks finished so far have what it has recorded: the outputs, or the chip's latches
+    /// before their step. It takes no memory.
+    pub fn rows(&self) -> &Rows
+        ensures { result.now ≡ self.now.rows }
     {
-        self.rows.as_slice()
+        &self.rows
     }
 
-    /// What it has recorded, given up. It takes no memory.
-    pub fn into_rows(self) -> Vec<Bits>
-        ensures { result.items ≡ self.entry.rows.items }
+    /// These rows, given up. It takes no memory.
+    pub fn into_rows(self) -> Rows
+        ensures { result ≡ self.entry.rows }
     {
         self.rows
     }
@@ -63,7 +61,7 @@ impl<'a> Node<'a> {
     pub fn latch_bit(&self, place: usize) -> bool
         requires { place < length self.now.code.now.latches.items }
         ensures { result
-            ≡ bit_in self.now.slots.items (slice_index self.now.code.now.latches.items place) }
+            ≡ bit_at_slot self.now.slots.items (slice_index self.now.code.now.latches.items place) }
     {
         self.slot_bit(self.code.latches[place] as usize)
     }
@@ -78,7 +76,7 @@ impl<'a> Node<'a> {
 
     /// The bit of a slot.
     fn slot_bit(&self, slot: usize) -> bool
-        ensures { result ≡ bit_in self.now.slots.items slot }
+        ensures { result ≡ bit_at_slot self.now.slots.items slot }
     {
         match self.slots.get(slot) {
             Some(bit) => *bit,

@@ -1,4 +1,4 @@
-use vw_net::Bits;
+use vw_net::Rows;
 use vw_prog::{Code, Share};
 
 /// A node of a board in a job. It has a slot for the bit of each net that it knows, and records the outputs or its latches at the
@@ -19,8 +19,6 @@ pub struct Node<'a> {
     pub slots: Vec<bool>,
     /// Room for the next bits of its latches.
     pub next: Vec<bool>,
-    /// What it has recorded, clock by clock.
-    pub rows: Vec<Bits>,
-    /// Room for what it will record.
-    pub spare: Vec<Bits>,
+    /// What it has recorded, clock by clock, and behind it the rows of the clocks to come.
+    pub rows: Rows,
 }

@@ -1,19 +1,18 @@
 //! A node before its first action.
 ghost use Rattle.std.specs.Prelude.{◌≡◌, ◌<◌, false, length, map, replicate, IfOk};
 ghost use Rattle.std.specs.List.{All};
-ghost use Rattle.vw_node.specs.Fits.{bit_in};
+ghost use Rattle.vw_node.specs.Fits.{bit_at_slot};
 ghost use Rattle.vw_net.specs.Steps.WrittenBits.{with_bits};
 ghost use Rattle.vw_node.specs.Slots.{row_at, with_row};
 
 use crate::bits::{put_bits, put_inputs};
 use std::alloc::{AllocError, Global};
-use vw_net::Bits;
 use vw_prog::{Code, Share};
 
 /// Puts the start bits of latches, by their numbers, into a list.
 fn take_starts(numbers: &[u32], start: &[bool], bits: &mut [bool])
     requires { length bits.old ≡ length numbers.now }
-    ensures { bits.new ≡ map (bit_in start.now) numbers.now }
+    ensures { bits.new ≡ map (bit_at_slot start.now) numbers.now }
 {
     for (i, number) in numbers.iter().enumerate() {
         bits[i] = match start.get(*number as usize) {
@@ -28,7 +27,7 @@ pub fn start_slots(alloc: Global, share: &Share, code: &Code) -> Result<Vec<bool
     requires numbers { length code.now.numbers.items ≡ length code.now.latches.items }
     requires latches { All (λ slot. slot < length code.now.nets.items) code.now.latches.items }
     ensures { IfOk result (λ slots. slots.items ≡ with_bits code.now.latches.items
-        (map (bit_in share.now.start.now) code.now.numbers.items)
+        (map (bit_at_slot share.now.start.now) code.now.numbers.items)
         (with_row (row_at share.now 0) (replicate (length code.now.nets.items) false))) }
 {
     let mut slots = vec![in alloc; false; code.nets.len()]?;
@@ -37,16 +36,4 @@ pub fn start_slots(alloc: Global, share: &Share, code: &Code) -> Result<Vec<bool
     put_inputs(share, 0, &mut slots);
     put_bits(&code.latches, &starts, &mut slots);
     Ok(slots)
-}
-
-/// So many rows of so many bits.
-pub fn spare_rows(alloc: Global, clocks: u64, width: usize) -> Result<Vec<Bits>, AllocError>
-    ensures count { IfOk result (λ rows. length rows.items ≡ clocks) }
-    ensures even { IfOk result (λ rows. All (λ row. length row ≡ width) rows.items) }
-{
-    let mut rows = Vec::new(alloc);
-    for _ in 0..clocks {
-        rows.push(Bits::of(vec![in alloc; false; width]?))?;
-    }
-    Ok(rows)
 }

@@ -1,15 +1,14 @@
 //! The actions of a node.
-ghost use Rattle.std.specs.Prelude.{◌≡◌, ◌<◌, ◌≤◌, ◌+◌, ◌-◌, ◌++◌, ◌∷◌, [], Bool, List, length, map, slice_set, false, if◌then◌else◌};
+ghost use Rattle.std.specs.Prelude.{◌≡◌, ◌<◌, ◌≤◌, ◌+◌, ◌-◌, length, map, slice_set, false, if◌then◌else◌};
 ghost use Rattle.std.specs.List.{All, slice_range};
-ghost use Rattle.std.specs.Vec.{vec_capacity};
 ghost use Rattle.vw_prog.specs.SeenGates.{seen_gates};
-ghost use Rattle.vw_node.specs.Fits.{IsFit, bit_in, state_of};
+ghost use Rattle.vw_node.specs.Fits.{FitsJob, bit_at_slot, state_of};
 ghost use Rattle.vw_node.specs.Moves.{MakesSome, Steps};
 ghost use Rattle.vw_node.specs.Positions.{Agrees};
 ghost use Rattle.vw_net.specs.Steps.WrittenBits.{with_bits};
-ghost use Rattle.vw_node.specs.Slots.{IsWithin, row_at, with_gates, with_row};
+ghost use Rattle.vw_node.specs.Slots.{ReadsWithin, row_at, with_gates, with_row};
 
-use crate::bits::{put_bits, put_inputs, put_row, take_bits};
+use crate::bits::{put_bits, put_inputs, take_bits};
 use crate::gates::{run_gates, wide_bit};
 use crate::node::Node;
 use crate::step::Step;
@@ -54,7 +53,7 @@ impl<'a> Node<'a> {
     fn run(&mut self, first: usize, end: usize, slot: u32)
         requires order { first ≤ end }
         requires end { end ≤ length (seen_gates self.old.code.now.gates) }
-        requires within { All (IsWithin (length self.old.slots.items))
+        requires within { All (ReadsWithin (length self.old.slots.items))
             (slice_range (seen_gates self.old.code.now.gates) first end) }
         requires room { slot + (end - first) ≤ length self.old.slots.items }
         requires made { self.old.made + (end - first) ≤ length self.old.code.now.ops.items }
@@ -70,31 +69,19 @@ impl<'a> Node<'a> {
         self.made += (end - first) as u64;
     }
 
-    /// Records the bits of its nets. The row for them is taken from those that are spare.
+    /// Records the bits of its nets, in the row of the present clock.
     fn record_row(&mut self)
-        requires some { 0 < length self.old.spare.items }
-        requires even { All (λ row. length row ≡ length self.old.code.now.records.items)
-            self.old.spare.items }
+        requires row { self.old.clock < length self.old.rows }
+        requires wide { All (λ row. length row ≡ length self.old.code.now.records.items)
+            self.old.rows }
         requires within { All (λ slot. slot < length self.old.slots.items)
             self.old.code.now.records.items }
-        requires room { length self.old.rows.items < vec_capacity self.old.rows }
-        ensures rest { self.new ≡ record self.old { rows = self.new.rows; spare = self.new.spare } }
-        ensures rows { self.new.rows.items ≡ self.old.rows.items
-            ++ map (bit_in self.old.slots.items) self.old.code.now.records.items ∷ [] }
-        ensures spare { (row : List Bool) × (self.old.spare.items
-            ≡ self.new.spare.items ++ row ∷ []) }
-        ensures capacity { vec_capacity self.old.rows ≤ vec_capacity self.new.rows }
+        ensures rest { self.new ≡ record self.old { rows = self.new.rows } }
+        ensures rows { self.new.rows ≡ slice_set self.old.rows self.old.clock
+            (map (bit_at_slot self.old.slots.items) self.old.code.now.records.items) }
     {
-        match self.spare.pop() {
-            Some(mut row) => {
-                put_row(&self.code.records, &self.slots, &mut row);
-                match self.rows.push(row) {
-                    Ok(()) => (),
-                    Err(_) => unreachable!(),
-                }
-            }
-            None => unreachable!(),
-        }
+        self.rows
+            .pick(self.clock as usize, &self.slots, &self.code.records);
     }
 
     /// Gives the latches the bits of their inputs, all together, and the inputs their bits of the next row.
@@ -110,7 +97,7 @@ impl<'a> Node<'a> {
         ensures rest { self.new ≡ record self.old { slots = self.new.slots; next = self.new.next } }
         ensures next { length self.new.next.items ≡ length self.old.next.items }
         ensures slots { self.new.slots.items ≡ with_bits self.old.code.now.latches.items
-            (map (bit_in self.old.slots.items) self.old.code.now.inputs.items)
+            (map (bit_at_slot self.old.slots.items) self.old.code.now.inputs.items)
             (with_row (row_at self.old.share (self.old.clock + 1)) self.old.slots.items) }
     {
         let code = self.code;
@@ -130,29 +117,24 @@ impl<'a> Node<'a> {
             self.old.code.now.latches.items }
         requires taken { All (λ slot. slot < length self.old.slots.items)
             self.old.code.now.inputs.items }
-        requires some { 0 < length self.old.spare.items }
-        requires even { All (λ row. length row ≡ length self.old.code.now.records.items)
-            self.old.spare.items }
+        requires row { self.old.clock < length self.old.rows }
+        requires wide { All (λ row. length row ≡ length self.old.code.now.records.items)
+            self.old.rows }
         requires within { All (λ slot. slot < length self.old.slots.items)
             self.old.code.now.records.items }
-        requires room { length self.old.rows.items < vec_capacity self.old.rows }
         ensures rest { self.new ≡ record self.old {
           clock = self.old.clock + 1;
           made = 0;
           slots = self.new.slots;
           next = self.new.next;
           rows = self.new.rows;
-          spare = self.new.spare;
         } }
         ensures next { length self.new.next.items ≡ length self.old.next.items }
         ensures slots { self.new.slots.items ≡ with_bits self.old.code.now.latches.items
-            (map (bit_in self.old.slots.items) self.old.code.now.inputs.items)
+            (map (bit_at_slot self.old.slots.items) self.old.code.now.inputs.items)
             (with_row (row_at self.old.share (self.old.clock + 1)) self.old.slots.items) }
-        ensures rows { self.new.rows.items ≡ self.old.rows.items
-            ++ map (bit_in self.old.slots.items) self.old.code.now.records.items ∷ [] }
-        ensures spare { (row : List Bool) × (self.old.spare.items
-            ≡ self.new.spare.items ++ row ∷ []) }
-        ensures capacity { vec_capacity self.old.rows ≤ vec_capacity self.new.rows }
+        ensures rows { self.new.rows ≡ slice_set self.old.rows self.old.clock
+            (map (bit_at_slot self.old.slots.items) self.old.code.now.records.items) }
     {
         self.record_row();
         self.move_sources();
@@ -164,10 +146,10 @@ impl<'a> Node<'a> {
     /// Makes the next action; where these are gates of a run, and it is to be `whole`, all that are left of the run.
     #[inline(always)]
     pub(crate) fn make_some<E: Ends>(&mut self, ends: &mut E, whole: bool) -> Step
-        requires fits { IsFit (E.seen ends.old).job self.old }
+        requires fits { FitsJob (E.seen ends.old).job self.old }
         requires agrees { Agrees (E.seen ends.old).job self.old.share.node (state_of self.old)
             (E.seen ends.old) }
-        ensures fits { IsFit (E.seen ends.new).job self.new }
+        ensures fits { FitsJob (E.seen ends.new).job self.new }
         ensures agrees { Agrees (E.seen ends.new).job self.new.share.node (state_of self.new)
             (E.seen ends.new) }
         ensures same { self.new.share ≡ self.old.share }
@@ -222,12 +204,12 @@ impl<'a> Node<'a> {
     pub fn step<E: Ends>(&mut self, ends: &mut E) -> Step
         // The node is one of the ends' job, has what it needs for it, and stands where they do; its slots have the values that they
         // have to have.
-        requires fits { IsFit (E.seen ends.old).job self.old }
+        requires fits { FitsJob (E.seen ends.old).job self.old }
         requires agrees { Agrees (E.seen ends.old).job self.old.share.node (state_of self.old)
             (E.seen ends.old) }
 
         // All this holds again.
-        ensures fits { IsFit (E.seen ends.new).job self.new }
+        ensures fits { FitsJob (E.seen ends.new).job self.new }
         ensures agrees { Agrees (E.seen ends.new).job self.new.share.node (state_of self.new)
             (E.seen ends.new) }
         ensures same { self.new.share ≡ self.old.share }

@@ -14,10 +14,10 @@ use Rattle.vw_order.specs.declared.depth.DepthSearch.{DepthSearch}
 use Rattle.vw_order.specs.declared.progress.Ahead.{Ahead}
 use Rattle.vw_order.specs.Steps.SearchProgress.{IsAhead}
 use Rattle.vw_order.specs.Steps.Rounds.{round_from}
-use Rattle.vw_order.specs.Graphs.{Graph, ReadsAt, IsWithin}
+use Rattle.vw_order.specs.Graphs.{Graph, ReadsAt, StaysWithin}
 use Rattle.vw_order.specs.Orders.{IsBehind, IsNumberOrder}
 use Rattle.vw_order.specs.Circles.{IsNumberCircle}
-use Rattle.vw_order.specs.Steps.Searches.{progress_of, IsSearch, IsDepthSearch, IsKept, IsVisited}
+use Rattle.vw_order.specs.Steps.Searches.{progress_of, IsSearch, IsDepthSearch, KeepsNumbers, IsVisited}
 use Rattle.vw_order.proofs.Among.{among_left, among_right, among_either, among_one, among_last, once_push, once_short, once_moved, once_part}
 use Rattle.vw_order.proofs.Rounds.{IsReadChain-push, IsReadChain-front, closes}
 
@@ -118,7 +118,7 @@ module _ (graph : Graph) where
         get_or-set_other progress root other Open Fresh (λ e. differ (sym e)) ∙ far.known other
         ∙ ap (λ (b : Bool). cond (is_among order other) Done (cond b Open Fresh)) (sym (among_other [] root other differ))
 
-  module _ (within : IsWithin graph) where
+  module _ (within : StaysWithin graph) where
     module _ (progress : List Progress) (cursors order stack : List ℕ) (number : ℕ) (far : IsSearch graph progress cursors order (stack ++ number ∷ [])) where
       top_counts : graph.counts number ≡ true
       top_counts = far.counted number (among_right order (stack ++ number ∷ []) number (among_last stack number))
@@ -261,7 +261,7 @@ module _ (graph : Graph) where
   }
 
 -- what was done is done where nothing is open before and after
-kept_done : (old new : DepthSearch) → old.stack.items ≡ [] → new.stack.items ≡ [] → IsKept old new → (number : ℕ) → is_among old.order.items number ≡ true → is_among new.order.items number ≡ true
+kept_done : (old new : DepthSearch) → old.stack.items ≡ [] → new.stack.items ≡ [] → KeepsNumbers old new → (number : ℕ) → is_among old.order.items number ≡ true → is_among new.order.items number ≡ true
 kept_done old new rests rest kept number done =
     let was : is_among (old.order.items ++ old.stack.items) number ≡ true = ap (λ (l : List ℕ). is_among (old.order.items ++ l) number) rests ∙ ap (λ (l : List ℕ). is_among l number) (append-nil old.order.items) ∙ done in
     sym (ap (λ (l : List ℕ). is_among (new.order.items ++ l) number) rest ∙ ap (λ (l : List ℕ). is_among l number) (append-nil new.order.items)) ∙ kept number was
@@ -278,7 +278,7 @@ visited_further graph old new i rests before visited = (
 )
 
 -- all numbers were visited
-pub all_visited : (graph : Graph) → IsWithin graph → (depth : DepthSearch) (i : ℕ) → graph.count ≤ i → IsDepthSearch graph depth → depth.stack.items ≡ []
+pub all_visited : (graph : Graph) → StaysWithin graph → (depth : DepthSearch) (i : ℕ) → graph.count ≤ i → IsDepthSearch graph depth → depth.stack.items ≡ []
     → ((number : ℕ) → number < i → graph.starts number ≡ true → is_among depth.order.items number ≡ true) → IsNumberOrder graph depth.order.items
 all_visited graph within depth i past far rests before =
     ended graph depth.progress.items depth.cursors.items depth.order.items (subst (λ (stack : List ℕ). IsSearch graph depth.progress.items depth.cursors.items depth.order.items stack) rests far)

@@ -8,7 +8,7 @@ use Rattle.vw_net.specs.declared.flat.Flat.{Flat}
 use Rattle.vw_net.specs.Order.{is_gate, is_among, read_nets_at, gate_inputs}
 use Rattle.vw_net.proofs.Orders.{gate_within}
 use Rattle.vw_order.specs.GateReads.{gate_reads}
-use Rattle.vw_order.specs.Graphs.{Reads, IsWithin}
+use Rattle.vw_order.specs.Graphs.{Reads, StaysWithin}
 use Rattle.vw_order.specs.Steps.Gates.{gate_of, gates}
 
 -- the gate that drives a net
@@ -58,7 +58,7 @@ module _ (flat : Flat) where
       (and_from (is_gate (slice_get flat.cells other)) (is_among (read_nets_at (slice_get flat.cells number)) (flat.inputs + other)) is.1
       (ap (is_among (read_nets_at (slice_get flat.cells number))) (sym is.0) ∙ ap (λ (nets : List ℕ). is_among nets at.0) (sym (inputs_read (slice_get flat.cells number) gate)) ∙ at.1))
 
-  pub within : IsWithin (gates flat)
+  pub within : StaysWithin (gates flat)
   within = record {
     below = gate_within flat.cells;
     started = λ number gate. gate;

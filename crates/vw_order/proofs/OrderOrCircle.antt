@@ -6,7 +6,7 @@ use Rattle.std.proofs.lemmas.Option.{none-some, same_Some}
 use Rattle.vw_net.proofs.Lists.{once_none}
 use Rattle.vw_net.specs.Order.{is_among}
 use Rattle.vw_order.specs.Steps.Rounds.{round_from}
-use Rattle.vw_order.specs.Graphs.{Graph, ReadsAt, Reads, IsWithin}
+use Rattle.vw_order.specs.Graphs.{Graph, ReadsAt, Reads, StaysWithin}
 use Rattle.vw_order.specs.Orders.{IsBehind, IsNumberOrder}
 use Rattle.vw_order.specs.Circles.{IsNumberCircle, BeginsWithLeast}
 use Rattle.vw_order.specs.Steps.Searches.{IsReadChain}
@@ -43,7 +43,7 @@ left_place order (Some first ∷ reads) = ⊎_elim
     later done all zero read at = ap (is_among order) (sym (same_Some first read (same_Some (Some first) (Some read) at))) ∙ done
     later done all (suc place) read at = all place read at
 
-module _ (graph : Graph) (within : IsWithin graph) where
+module _ (graph : Graph) (within : StaysWithin graph) where
   abbrev Circle : Type 0
   Circle = (numbers : List ℕ) × IsNumberCircle graph numbers
 

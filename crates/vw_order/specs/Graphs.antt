@@ -17,7 +17,7 @@ abbrev pub Reads : Graph → ℕ → ℕ → Type 0
 Reads graph number other = (place : ℕ) × ReadsAt graph number place other
 
 -- a search stays among the numbers that count: it starts there, they read no others, and each is below how many there are
-pub record IsWithin (graph : Graph) : Type 0 where
+pub record StaysWithin (graph : Graph) : Type 0 where
   pub below : (number : ℕ) → IsTrue (graph.counts number) → number < graph.count
   pub started : (number : ℕ) → IsTrue (graph.starts number) → IsTrue (graph.counts number)
   pub read : (number place other : ℕ) → IsTrue (graph.counts number) → ReadsAt graph number place other

@@ -1,6 +1,6 @@
 //! A search in depth over numbers that read each other.
 ghost use Rattle.std.specs.Prelude.{◌≡◌, ◌<◌, [], IfOk};
-ghost use Rattle.vw_order.specs.Graphs.{IsWithin};
+ghost use Rattle.vw_order.specs.Graphs.{StaysWithin};
 ghost use Rattle.vw_order.specs.SearchResults.{IsFound};
 ghost use Rattle.vw_order.specs.Steps.Searches.{IsDepthSearch, IsGoneOn, IsVisited};
 
@@ -25,7 +25,7 @@ fn go_on<D: Digraph>(
     digraph: &D,
     depth: &mut DepthSearch,
 ) -> Result<Option<Vec<u32>>, AllocError>
-    requires within { IsWithin (D.graph digraph.now) }
+    requires within { StaysWithin (D.graph digraph.now) }
     requires depth { IsDepthSearch (D.graph digraph.now) depth.old }
     ensures { IfOk result (IsGoneOn (D.graph digraph.now) depth.old depth.new) }
 {
@@ -50,7 +50,7 @@ fn visit<D: Digraph>(
     depth: &mut DepthSearch,
     number: u32,
 ) -> Result<Option<Vec<u32>>, AllocError>
-    requires within { IsWithin (D.graph digraph.now) }
+    requires within { StaysWithin (D.graph digraph.now) }
     requires depth { IsDepthSearch (D.graph digraph.now) depth.old }
     requires rests { depth.old.stack.items ≡ [] }
     requires number { number < (D.graph digraph.now).count }
@@ -66,7 +66,7 @@ fn visit<D: Digraph>(
 /// An order of the numbers that have to be reached and of all that they read, or a circle of such numbers. It goes over
 /// each number and each of its places once, its calls don't nest, and it takes a few words for each number.
 pub fn search<D: Digraph>(alloc: Global, digraph: &D) -> Result<Found, AllocError>
-    requires { IsWithin (D.graph digraph.now) }
+    requires { StaysWithin (D.graph digraph.now) }
     ensures { IfOk result (IsFound (D.graph digraph.now)) }
 {
     let mut depth = DepthSearch::start(alloc, digraph.count() as usize)?;

@@ -9,7 +9,7 @@ use Rattle.vw_plan.specs.Chips.{IsChip, cells_on}
 use Rattle.vw_part.specs.declared.deal.Deal.{Deal}
 use Rattle.vw_part.specs.declared.load.Load.{Load}
 use Rattle.vw_part.specs.declared.cell_nets.CellNets.{CellNets}
-use Rattle.vw_part.specs.Steps.Deals.{IsDeal, IsLoad, MayMoveTo, cells_held, met, nets_at}
+use Rattle.vw_part.specs.Steps.Deals.{IsDeal, IsLoad, MayMoveTo, cells_held, met, cell_nets_at}
 use Rattle.vw_part.specs.Steps.CellNets.{times_among}
 use Rattle.vw_part.proofs.ChipLoads.{all_full, held_push, held_set, on_all, on_push, on_set}
 use Rattle.vw_part.proofs.Shares.{at_other, at_same}
@@ -32,10 +32,10 @@ load_same cell_nets chips others chip load cells counts is = record {
   counts = λ net. is.counts net ∙ sym (counts net);
 }
 
-pub dealt_more : (board : Board) (cell_nets : CellNets) (chips_before chips_after : List ℕ) (loads_before loads_after : List Load) (chip : ℕ) (load : Load) → IsDeal board cell_nets chips_before loads_before → length chips_before < length cell_nets.of_cells.items → IsChip board chip → cells_on chips_before chip < board.cells → chips_after ≡ chips_before ++ chip ∷ [] → loads_after ≡ set loads_before chip load → HasCellMore (nets_at cell_nets (length chips_before)) (get_or loads_before chip load) load → IsDeal board cell_nets chips_after loads_after
+pub dealt_more : (board : Board) (cell_nets : CellNets) (chips_before chips_after : List ℕ) (loads_before loads_after : List Load) (chip : ℕ) (load : Load) → IsDeal board cell_nets chips_before loads_before → length chips_before < length cell_nets.of_cells.items → IsChip board chip → cells_on chips_before chip < board.cells → chips_after ≡ chips_before ++ chip ∷ [] → loads_after ≡ set loads_before chip load → HasCellMore (cell_nets_at cell_nets (length chips_before)) (get_or loads_before chip load) load → IsDeal board cell_nets chips_after loads_after
 dealt_more board cell_nets chips_before chips_after loads_before loads_after chip load is next real room chip_of loads more =
     let chips = chips_before in
-    let own = nets_at cell_nets (length chips) in
+    let own = cell_nets_at cell_nets (length chips) in
     let new = chips ++ chip ∷ [] in
     let within : chip < length loads_before = omega (arith, is.nodes, real.1) in
     let if_on : (other : ℕ) → cells_on new other ≤ board.cells = λ other.
@@ -65,10 +65,10 @@ dealt_more board cell_nets chips_before chips_after loads_before loads_after chi
     }
 
 -- after a move
-pub dealt_moved : (board : Board) (cell_nets : CellNets) (chips_before chips_after : List ℕ) (loads_before loads_after : List Load) (cell chip : ℕ) (left come : Load) → IsDeal board cell_nets chips_before loads_before → cell < length chips_before → MayMoveTo board chips_before cell chip → chips_after ≡ set chips_before cell chip → loads_after ≡ set (set loads_before (get_or chips_before cell 0) left) chip come → HasCellMore (nets_at cell_nets cell) left (get_or loads_before (get_or chips_before cell 0) left) → HasCellMore (nets_at cell_nets cell) (get_or loads_before chip come) come → IsDeal board cell_nets chips_after loads_after
+pub dealt_moved : (board : Board) (cell_nets : CellNets) (chips_before chips_after : List ℕ) (loads_before loads_after : List Load) (cell chip : ℕ) (left come : Load) → IsDeal board cell_nets chips_before loads_before → cell < length chips_before → MayMoveTo board chips_before cell chip → chips_after ≡ set chips_before cell chip → loads_after ≡ set (set loads_before (get_or chips_before cell 0) left) chip come → HasCellMore (cell_nets_at cell_nets cell) left (get_or loads_before (get_or chips_before cell 0) left) → HasCellMore (cell_nets_at cell_nets cell) (get_or loads_before chip come) come → IsDeal board cell_nets chips_after loads_after
 dealt_moved board cell_nets chips_before chips_after loads_before loads_after cell chip left come is within target chip_of loads less more =
     let chips = chips_before in
-    let own = nets_at cell_nets cell in
+    let own = cell_nets_at cell_nets cell in
     let from = get_or chips cell 0 in
     let new = set chips cell chip in
     let was = All-get_or (IsChip board) chips cell 0 within is.chips in
@@ -119,5 +119,5 @@ dealt_moved board cell_nets chips_before chips_after loads_before loads_after ce
 pub loaded : (deal : Deal) (chip : ℕ) (load : Load) → chip ≤ deal.board.now.chips → load ≡ get_or deal.loads.items chip load → IsLoad deal.cell_nets.now deal.chip_of.items chip load
 loaded deal chip load low found = subst (λ (x : Load). IsLoad deal.cell_nets.now deal.chip_of.items chip x) (sym found) (deal.is.held chip load low)
 
-pub met-le : (cell_nets : CellNets) (chips : List ℕ) (cell chip : ℕ) → met cell_nets chips cell chip ≤ length (nets_at cell_nets cell)
-met-le cell_nets chips cell chip = count_by-le-length (λ net. nat_lt 0 (cells_held chips cell_nets.of_cells.items chip net)) (nets_at cell_nets cell)
+pub met-le : (cell_nets : CellNets) (chips : List ℕ) (cell chip : ℕ) → met cell_nets chips cell chip ≤ length (cell_nets_at cell_nets cell)
+met-le cell_nets chips cell chip = count_by-le-length (λ net. nat_lt 0 (cells_held chips cell_nets.of_cells.items chip net)) (cell_nets_at cell_nets cell)

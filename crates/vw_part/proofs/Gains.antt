@@ -8,7 +8,7 @@ use Rattle.std.proofs.lemmas.List.Elements.{All-get_or}
 use Rattle.vw_plan.specs.declared.board.Board.{Board}
 use Rattle.vw_plan.specs.Chips.{IsChip}
 use Rattle.vw_part.specs.declared.cell_nets.CellNets.{CellNets}
-use Rattle.vw_part.specs.Steps.Deals.{freed, cells_held, holders, met, nets_at, spread}
+use Rattle.vw_part.specs.Steps.Deals.{freed, cells_held, holders, met, cell_nets_at, spread}
 use Rattle.vw_part.specs.Steps.CellNets.{times_among}
 use Rattle.vw_net.specs.Steps.Bits.{one_if}
 use Rattle.vw_net.proofs.SumsOverLists.{length_sum, range_one, sum_agree, sum_plus}
@@ -121,7 +121,7 @@ module _ (chips : List ℕ) (cell_nets : List (List ℕ)) (cell new most : ℕ) 
       omega (arith, first, second, same, by_share gain own 0 nets own_below, by_share (λ x. 1) own 0 nets own_below, sum_plus leaves there own, length_sum own)
 
 -- the spread after a move
-pub spread_moved : (board : Board) (cell_nets : CellNets) (chips : List ℕ) (cell new : ℕ) → cell < length chips → length chips ≤ length cell_nets.of_cells.items → All (IsChip board) chips → IsChip board new → (get_or chips cell 0 ≡ new → ⊥) → spread board cell_nets (set chips cell new) + (freed cell_nets chips cell + met cell_nets chips cell new) ≡ spread board cell_nets chips + length (nets_at cell_nets cell)
+pub spread_moved : (board : Board) (cell_nets : CellNets) (chips : List ℕ) (cell new : ℕ) → cell < length chips → length chips ≤ length cell_nets.of_cells.items → All (IsChip board) chips → IsChip board new → (get_or chips cell 0 ≡ new → ⊥) → spread board cell_nets (set chips cell new) + (freed cell_nets chips cell + met cell_nets chips cell new) ≡ spread board cell_nets chips + length (cell_nets_at cell_nets cell)
 unfolding spread
 spread_moved board cell_nets chips cell new within few all real apart =
     let was = All-get_or (IsChip board) chips cell 0 within all in

@@ -11,7 +11,7 @@ use Rattle.vw_plan.specs.Chips.{IsChip}
 use Rattle.vw_part.specs.declared.deal.Deal.{Deal}
 use Rattle.vw_part.specs.declared.load.Load.{Load}
 use Rattle.vw_part.specs.declared.cell_nets.CellNets.{CellNets}
-use Rattle.vw_part.specs.Steps.Deals.{IsLoad, cells_held, freed, met, nets_at}
+use Rattle.vw_part.specs.Steps.Deals.{IsLoad, cells_held, freed, met, cell_nets_at}
 use Rattle.vw_part.specs.Steps.Gains.{AreGains, KeepsGains, lone_among}
 
 -- ---- no cells
@@ -42,9 +42,9 @@ empty_gains cell_nets chip load frees is none =
     let held = λ (net : ℕ). zeros_at load.held.counts.items cell_nets.nets net is.held in
     record {
       met_long = ap (λ (l : List ℕ). length l) is.met ∙ length-replicate cells 0;
-      met = λ cell. zeros_at load.met.counts.items cells cell is.met ∙ sym (sum_none (λ net. one_if (nat_lt 0 (get_or load.held.counts.items net 0))) (nets_at cell_nets cell) (λ net. ap (λ (n : ℕ). one_if (nat_lt 0 n)) (held net)));
+      met = λ cell. zeros_at load.met.counts.items cells cell is.met ∙ sym (sum_none (λ net. one_if (nat_lt 0 (get_or load.held.counts.items net 0))) (cell_nets_at cell_nets cell) (λ net. ap (λ (n : ℕ). one_if (nat_lt 0 n)) (held net)));
       freed_long = ap (λ (l : List ℕ). length l) none ∙ length-replicate cells 0;
-      freed = λ cell on. zeros_at frees cells cell none ∙ sym (sum_none (λ net. one_if (eqb (get_or load.held.counts.items net 0) 1)) (nets_at cell_nets cell) (λ net. ap (λ (n : ℕ). one_if (eqb n 1)) (held net)));
+      freed = λ cell on. zeros_at frees cells cell none ∙ sym (sum_none (λ net. one_if (eqb (get_or load.held.counts.items net 0) 1)) (cell_nets_at cell_nets cell) (λ net. ap (λ (n : ℕ). one_if (eqb n 1)) (held net)));
     }
 
 -- ---- one cell elsewhere
@@ -59,17 +59,17 @@ gains_stay cell_nets chips chips_after chip load frees frees_after gains long ce
 }
 
 -- the gains of a chip to which a cell comes, before its nets are counted there
-pub gains_come : (cell_nets : CellNets) (chips chips_after : List ℕ) (cell chip lone : ℕ) (load : Load) (frees frees_after : List ℕ) → AreGains cell_nets chips chip load frees → cell < length frees → ((other : ℕ) → (cell ≡ other → ⊥) → get_or chips_after other 0 ≡ get_or chips other 0) → lone ≡ lone_among (λ net. get_or load.held.counts.items net 0) (nets_at cell_nets cell) → frees_after ≡ set frees cell lone → AreGains cell_nets chips_after chip load frees_after
+pub gains_come : (cell_nets : CellNets) (chips chips_after : List ℕ) (cell chip lone : ℕ) (load : Load) (frees frees_after : List ℕ) → AreGains cell_nets chips chip load frees → cell < length frees → ((other : ℕ) → (cell ≡ other → ⊥) → get_or chips_after other 0 ≡ get_or chips other 0) → lone ≡ lone_among (λ net. get_or load.held.counts.items net 0) (cell_nets_at cell_nets cell) → frees_after ≡ set frees cell lone → AreGains cell_nets chips_after chip load frees_after
 gains_come cell_nets chips chips_after cell chip lone load frees frees_after gains within others count written = record {
   met_long = gains.met_long;
   met = gains.met;
   freed_long = ap (λ (l : List ℕ). length l) written ∙ length-set frees cell lone ∙ gains.freed_long;
   freed = λ other on.
       let if_here = λ (here : cell ≡ other).
-      let found : get_or frees_after cell 0 ≡ lone_among (λ net. get_or load.held.counts.items net 0) (nets_at cell_nets cell) = ap (λ (l : List ℕ). get_or l cell 0) written ∙ get_or-set_same frees cell lone 0 within ∙ count in
-      subst (λ (x : ℕ). get_or frees_after x 0 ≡ lone_among (λ net. get_or load.held.counts.items net 0) (nets_at cell_nets x)) here found in
+      let found : get_or frees_after cell 0 ≡ lone_among (λ net. get_or load.held.counts.items net 0) (cell_nets_at cell_nets cell) = ap (λ (l : List ℕ). get_or l cell 0) written ∙ get_or-set_same frees cell lone 0 within ∙ count in
+      subst (λ (x : ℕ). get_or frees_after x 0 ≡ lone_among (λ net. get_or load.held.counts.items net 0) (cell_nets_at cell_nets x)) here found in
       let if_not = λ (apart : cell ≡ other → ⊥).
-      let kept : get_or frees_after other 0 ≡ lone_among (λ net. get_or load.held.counts.items net 0) (nets_at cell_nets other) = ap (λ (l : List ℕ). get_or l other 0) written ∙ get_or-set_other frees cell other lone 0 (λ same. apart (sym same)) ∙ gains.freed other (sym (others other apart) ∙ on) in kept in
+      let kept : get_or frees_after other 0 ≡ lone_among (λ net. get_or load.held.counts.items net 0) (cell_nets_at cell_nets other) = ap (λ (l : List ℕ). get_or l other 0) written ∙ get_or-set_other frees cell other lone 0 (λ same. apart (sym same)) ∙ gains.freed other (sym (others other apart) ∙ on) in kept in
       ⊎_elim if_here if_not (cases_eq cell other);
 }
 
@@ -136,7 +136,7 @@ freed_is deal cell within =
     let some_load : Load = record { cells = 0; held = deal.freed; met = deal.freed } in
     let was = All-get_or (IsChip deal.board.now) chips cell 0 within deal.is.chips in
     let load = get_or deal.loads.items chip some_load in
-    let same = sum_agree (λ net. one_if (eqb (get_or load.held.counts.items net 0) 1)) (λ net. one_if (eqb (cells_held chips cell_nets.of_cells.items chip net) 1)) (nets_at cell_nets cell) (λ net. ap (λ (n : ℕ). one_if (eqb n 1)) ((deal.is.held chip some_load was.1).counts net)) in
+    let same = sum_agree (λ net. one_if (eqb (get_or load.held.counts.items net 0) 1)) (λ net. one_if (eqb (cells_held chips cell_nets.of_cells.items chip net) 1)) (cell_nets_at cell_nets cell) (λ net. ap (λ (n : ℕ). one_if (eqb n 1)) ((deal.is.held chip some_load was.1).counts net)) in
     (deal.gains chip some_load was.1).freed cell refl ∙ same
 
 pub met_is : (deal : Deal) (cell chip : ℕ) (load : Load) → chip ≤ deal.board.now.chips → load ≡ get_or deal.loads.items chip load → get_or load.met.counts.items cell 0 ≡ met deal.cell_nets.now deal.chip_of.items cell chip
@@ -144,5 +144,5 @@ met_is deal cell chip load low found =
     let cell_nets = deal.cell_nets.now in
     let chips = deal.chip_of.items in
     let is = subst (λ (x : Load). IsLoad cell_nets chips chip x) (sym found) (deal.is.held chip load low) in
-    let same = sum_agree (λ net. one_if (nat_lt 0 (get_or load.held.counts.items net 0))) (λ net. one_if (nat_lt 0 (cells_held chips cell_nets.of_cells.items chip net))) (nets_at cell_nets cell) (λ net. ap (λ (n : ℕ). one_if (nat_lt 0 n)) (is.counts net)) in
+    let same = sum_agree (λ net. one_if (nat_lt 0 (get_or load.held.counts.items net 0))) (λ net. one_if (nat_lt 0 (cells_held chips cell_nets.of_cells.items chip net))) (cell_nets_at cell_nets cell) (λ net. ap (λ (n : ℕ). one_if (nat_lt 0 n)) (is.counts net)) in
     (gains_at deal chip load low found).met cell ∙ same

@@ -12,7 +12,7 @@ use Rattle.vw_part.specs.declared.load.Load.{Load}
 use Rattle.vw_part.specs.declared.tally.Tally.{Tally}
 use Rattle.vw_part.specs.declared.cell_nets.CellNets.{CellNets}
 use Rattle.vw_part.specs.Steps.CellNets.{AreCellsOf, times_among}
-use Rattle.vw_part.specs.Steps.Deals.{nets_at}
+use Rattle.vw_part.specs.Steps.Deals.{cell_nets_at}
 use Rattle.vw_part.specs.Steps.Gains.{AreGains}
 use Rattle.vw_part.proofs.Shares.{at, at_other, at_same, by_share, share}
 
@@ -94,43 +94,43 @@ gains_follow cell_nets chip_of chip net before after frees_before frees_after ce
       met = λ cell.
           let left = ap (λ (times : ℕ). counted was_met times) (are.turned cell) in
           let right = ap (λ (times : ℕ). counted is_met times) (are.turned cell) in
-          omega (arith, left, right, met cell, gains.met cell, count_changed (λ (count : ℕ). nat_lt 0 count) old new net (nets_at cell_nets cell) others);
+          omega (arith, left, right, met cell, gains.met cell, count_changed (λ (count : ℕ). nat_lt 0 count) old new net (cell_nets_at cell_nets cell) others);
       freed_long = freed_long ∙ gains.freed_long;
       freed = λ cell on.
           let left = ap (λ (times : ℕ). counted was_lone times) (are.turned cell) in
           let right = ap (λ (times : ℕ). counted is_lone times) (are.turned cell) in
-          omega (arith, left, right, freed cell on, gains.freed cell on, count_changed (λ (count : ℕ). eqb count 1) old new net (nets_at cell_nets cell) others);
+          omega (arith, left, right, freed cell on, gains.freed cell on, count_changed (λ (count : ℕ). eqb count 1) old new net (cell_nets_at cell_nets cell) others);
     }
 
 -- ---- how large they are
 
 -- a cell has no more nets than there are, and each of them once
-pub few_own : (cell_nets : CellNets) (cell : ℕ) → length (nets_at cell_nets cell) ≤ cell_nets.nets
+pub few_own : (cell_nets : CellNets) (cell : ℕ) → length (cell_nets_at cell_nets cell) ≤ cell_nets.nets
 few_own cell_nets cell = ⊎_elim of_cell of_none (cases_lt cell (length cell_nets.of_cells.items)) where
-  of_cell : cell < length cell_nets.of_cells.items → length (nets_at cell_nets cell) ≤ cell_nets.nets
+  of_cell : cell < length cell_nets.of_cells.items → length (cell_nets_at cell_nets cell) ≤ cell_nets.nets
   of_cell within =
-      let own = nets_at cell_nets cell in
+      let own = cell_nets_at cell_nets cell in
       let range = range_with_len 0 cell_nets.nets in
       let below : All (λ net. (0 ≤ net) × (net < 0 + cell_nets.nets)) own = λ place default there. (omega arith, omega (arith, cell_nets.within cell [] within place default there)) in
       let all : sum_by (share (λ x. 1) own) range ≤ length range * 1 = sum_by-le (share (λ x. 1) own) 1 range (λ place default there. cell_nets.once cell [] within (get_or range place default)) in
       omega (arith, by_share (λ x. 1) own 0 cell_nets.nets below, length_sum own, all, length-range_with_len 0 cell_nets.nets)
 
-  of_none : length cell_nets.of_cells.items ≤ cell → length (nets_at cell_nets cell) ≤ cell_nets.nets
+  of_none : length cell_nets.of_cells.items ≤ cell → length (cell_nets_at cell_nets cell) ≤ cell_nets.nets
   of_none past = omega (arith, ap (λ (nets : List ℕ). length nets) (get_or_past cell_nets.of_cells.items cell [] past))
 
-pub times_few : (cell_nets : CellNets) (cell net : ℕ) → times_among (nets_at cell_nets cell) net ≤ 1
+pub times_few : (cell_nets : CellNets) (cell net : ℕ) → times_among (cell_nets_at cell_nets cell) net ≤ 1
 times_few cell_nets cell net = ⊎_elim (λ within. cell_nets.once cell [] within net) of_none (cases_lt cell (length cell_nets.of_cells.items)) where
-  of_none : length cell_nets.of_cells.items ≤ cell → times_among (nets_at cell_nets cell) net ≤ 1
+  of_none : length cell_nets.of_cells.items ≤ cell → times_among (cell_nets_at cell_nets cell) net ≤ 1
   of_none past = omega (arith, ap (λ (nets : List ℕ). times_among nets net) (get_or_past cell_nets.of_cells.items cell [] past))
 
 -- so what is kept fits, also with one more
 pub met_fits : (cell_nets : CellNets) (chip_of : List ℕ) (chip net : ℕ) (load : Load) (frees cells : List ℕ) (cell : ℕ) → AreGains cell_nets chip_of chip load frees → AreCellsOf cell_nets.of_cells.items net cells → get_or load.met.counts.items cell 0 + times_among cells cell < 2 ^ 32
 met_fits cell_nets chip_of chip net load frees cells cell gains are =
-    omega (arith, gains.met cell, count_by-le-length (λ net. nat_lt 0 (get_or load.held.counts.items net 0)) (nets_at cell_nets cell), few_own cell_nets cell, are.turned cell, times_few cell_nets cell net, cell_nets.few_nets)
+    omega (arith, gains.met cell, count_by-le-length (λ net. nat_lt 0 (get_or load.held.counts.items net 0)) (cell_nets_at cell_nets cell), few_own cell_nets cell, are.turned cell, times_few cell_nets cell net, cell_nets.few_nets)
 
 pub freed_fits : (cell_nets : CellNets) (chip_of : List ℕ) (chip net : ℕ) (load : Load) (frees cells : List ℕ) (cell : ℕ) → AreGains cell_nets chip_of chip load frees → AreCellsOf cell_nets.of_cells.items net cells → get_or chip_of cell 0 ≡ chip → get_or frees cell 0 + times_among cells cell < 2 ^ 32
 freed_fits cell_nets chip_of chip net load frees cells cell gains are on =
-    omega (arith, gains.freed cell on, count_by-le-length (λ net. eqb (get_or load.held.counts.items net 0) 1) (nets_at cell_nets cell), few_own cell_nets cell, are.turned cell, times_few cell_nets cell net, cell_nets.few_nets)
+    omega (arith, gains.freed cell on, count_by-le-length (λ net. eqb (get_or load.held.counts.items net 0) 1) (cell_nets_at cell_nets cell), few_own cell_nets cell, are.turned cell, times_few cell_nets cell net, cell_nets.few_nets)
 
 -- and what is taken from it is there
 least : (amount : ℕ → ℕ) (net : ℕ) (nets : List ℕ) → 1 ≤ amount net → times_among nets net ≤ sum_by amount nets
@@ -150,12 +150,12 @@ least amount net (first ∷ nets) some =
 pub met_there : (cell_nets : CellNets) (chip_of : List ℕ) (chip net : ℕ) (load : Load) (frees cells : List ℕ) (cell : ℕ) → AreGains cell_nets chip_of chip load frees → AreCellsOf cell_nets.of_cells.items net cells → 0 < get_or load.held.counts.items net 0 → times_among cells cell ≤ get_or load.met.counts.items cell 0
 met_there cell_nets chip_of chip net load frees cells cell gains are some =
     let one : 1 ≤ one_if (nat_lt 0 (get_or load.held.counts.items net 0)) = rw (lt-ltb 0 (get_or load.held.counts.items net 0) some) (omega arith) in
-    omega (arith, gains.met cell, are.turned cell, least (λ net. one_if (nat_lt 0 (get_or load.held.counts.items net 0))) net (nets_at cell_nets cell) one)
+    omega (arith, gains.met cell, are.turned cell, least (λ net. one_if (nat_lt 0 (get_or load.held.counts.items net 0))) net (cell_nets_at cell_nets cell) one)
 
 pub freed_there : (cell_nets : CellNets) (chip_of : List ℕ) (chip net : ℕ) (load : Load) (frees cells : List ℕ) (cell : ℕ) → AreGains cell_nets chip_of chip load frees → AreCellsOf cell_nets.of_cells.items net cells → get_or load.held.counts.items net 0 ≡ 1 → get_or chip_of cell 0 ≡ chip → times_among cells cell ≤ get_or frees cell 0
 freed_there cell_nets chip_of chip net load frees cells cell gains are lone on =
     let one : 1 ≤ one_if (eqb (get_or load.held.counts.items net 0) 1) = rw (eq-eqb (get_or load.held.counts.items net 0) 1 lone) (omega arith) in
-    omega (arith, gains.freed cell on, are.turned cell, least (λ net. one_if (eqb (get_or load.held.counts.items net 0) 1)) net (nets_at cell_nets cell) one)
+    omega (arith, gains.freed cell on, are.turned cell, least (λ net. one_if (eqb (get_or load.held.counts.items net 0) 1)) net (cell_nets_at cell_nets cell) one)
 
 -- ---- one count that rose or fell by one
 

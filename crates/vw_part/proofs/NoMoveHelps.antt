@@ -10,7 +10,7 @@ use Rattle.vw_plan.specs.declared.board.Board.{Board}
 use Rattle.vw_plan.specs.Chips.{IsChip}
 use Rattle.vw_plan.specs.Good.{NoMoveHelps, pair_count}
 use Rattle.vw_part.specs.declared.cell_nets.CellNets.{CellNets}
-use Rattle.vw_part.specs.Steps.Deals.{HasNoGain, freed, holders, met, nets_at, spread}
+use Rattle.vw_part.specs.Steps.Deals.{HasNoGain, freed, holders, met, cell_nets_at, spread}
 use Rattle.vw_part.specs.Steps.CellNets.{AreCellNets}
 use Rattle.vw_net.specs.Steps.Bits.{one_if}
 use Rattle.vw_part.proofs.Gains.{spread_moved}
@@ -38,6 +38,6 @@ module _ (flat : Flat) (board : Board) (cell_nets : CellNets) (nets : cell_nets.
       let goes : pair_count flat chips ≤ pair_count flat moved = omega (arith, ap (λ (l : List ℕ). pair_count flat l) unmoved) in goes in
       let if_away = λ (apart : get_or chips cell 0 ≡ chip → ⊥).
       let change = spread_moved board cell_nets chips cell chip within (omega (arith, each, nets_long flat.inputs flat.cells cell_nets.of_cells.items are)) real is_chip apart in
-      let no_help : freed cell_nets chips cell + met cell_nets chips cell chip ≤ length (nets_at cell_nets cell) = ⊎_elim (λ help. absurd (settled cell within chip (record { real = is_chip; away = apart; room = room }) help)) (λ low. low) (cases_lt (length (nets_at cell_nets cell)) (freed cell_nets chips cell + met cell_nets chips cell chip)) in
+      let no_help : freed cell_nets chips cell + met cell_nets chips cell chip ≤ length (cell_nets_at cell_nets cell) = ⊎_elim (λ help. absurd (settled cell within chip (record { real = is_chip; away = apart; room = room }) help)) (λ low. low) (cases_lt (length (cell_nets_at cell_nets cell)) (freed cell_nets chips cell + met cell_nets chips cell chip)) in
       let goes : pair_count flat chips ≤ pair_count flat moved = omega (arith, before, after, change, no_help) in goes in
       ⊎_elim if_same if_away (cases_eq (get_or chips cell 0) chip)

@@ -1,4 +1,4 @@
-/// Why cells can't be dealt to chips.
+/// Why cells can't be dealt to chips. It has no message of its own: what plans a design says that it doesn't fit.
 #[derive(Clone, Copy, Debug, PartialEq, Eq)]
 pub enum PartFault {
     /// There are more cells than the chips have room for.

@@ -19,7 +19,7 @@ use Rattle.vw_plan.specs.Routes.{AreRoutes, steps_of}
 use Rattle.vw_plan.specs.PlannedBoard.{PlannedBoard, home, planned_board}
 use Rattle.vw_plan.specs.Sound.{share_pin}
 use Rattle.vw_plan.specs.Walks.{IsWalk}
-use Rattle.vw_slots.specs.Slots.{is_taken}
+use Rattle.vw_slots.specs.Slots.{is_pin_taken}
 use Rattle.vw_pipe.specs.declared.draft.Draft.{Draft}
 use Rattle.vw_pipe.specs.declared.task.Task.{Task}
 use Rattle.vw_pipe.specs.Steps.SentHops.{AreSent, hop_link}
@@ -93,7 +93,7 @@ module _ (ordered : Ordered) (board : Board) (plan : Plan) (routes : List Route)
   plan_leads net = leads_right ordered board plan routes draft.hops.items draft.leads.items way.fit.long wires worked way.zero net
 
   -- a slot that is taken is used by a hop of the plan
-  in_use : (hop : Hop) → is_taken draft.table.taken (hop_link board hop) hop.pin hop.at ≡ true → is_in_use plan hop ≡ true
+  in_use : (hop : Hop) → is_pin_taken draft.table.taken (hop_link board hop) hop.pin hop.at ≡ true → is_in_use plan hop ≡ true
   in_use hop taken =
       let one : uses hop (all_hops draft.hops.items) ≡ 1 = way.slots hop ∙ ap (λ (bit : Bool). if bit then 1 else 0) taken in
       ap (λ (list : List Wire). list_any (share_pin hop) (flat_map (λ wire. wire.hops) list)) wires
@@ -125,7 +125,7 @@ pub finished : (ordered : Ordered) (board : Board) (chip_of : List ℕ) (routes 
 finished ordered board chip_of routes turns tasks count draft are_routes are whole way = record {
   fit = way.fit;
   along = all_zip (IsAlong board) routes draft.hops.items way.fit.long (along ordered board chip_of routes turns tasks count draft are_routes are whole way);
-  once = λ hop. omega (arith, way.slots hop, low_bit (is_taken draft.table.taken (hop_link board hop) hop.pin hop.at));
+  once = λ hop. omega (arith, way.slots hop, low_bit (is_pin_taken draft.table.taken (hop_link board hop) hop.pin hop.at));
   sent_well = λ plan has. all_well ordered board plan routes turns tasks count draft
       (subst (λ (chips : List ℕ). AreRoutes ordered.flat board chips routes) (sym has.chips) are_routes)
       are whole

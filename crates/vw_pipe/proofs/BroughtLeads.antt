@@ -15,26 +15,26 @@ use Rattle.vw_plan.specs.Lead.{after_last, brings, brought_at, lead, usable}
 use Rattle.vw_plan.specs.Nets.{driving_cell, greatest_read}
 use Rattle.vw_plan.specs.PlannedBoard.{PlannedBoard, home, planned_board}
 use Rattle.vw_plan.proofs.LeadLevels.{LeadsFollowDrivers}
-use Rattle.vw_pipe.specs.Steps.Leads.{hops_to, lead_so_far, usable_so_far, wires_of}
+use Rattle.vw_pipe.specs.Steps.Leads.{route_hops_to, lead_so_far, usable_so_far, wires_of}
 
-pub brought_wires : (links : List Link) (node net : ℕ) (routes : List Route) (hops : List (List Hop)) → option_map_or (λ (wire : Wire). after_last links wire.hops) (find (brings net node) (wires_of routes hops)) 0 ≡ after_last links (hops_to routes hops node net)
+pub brought_wires : (links : List Link) (node net : ℕ) (routes : List Route) (hops : List (List Hop)) → option_map_or (λ (wire : Wire). after_last links wire.hops) (find (brings net node) (wires_of routes hops)) 0 ≡ after_last links (route_hops_to routes hops node net)
 brought_wires links node net [] hops = refl
 brought_wires links node net (route ∷ routes) [] = refl
 brought_wires links node net (route ∷ routes) (sent ∷ hops) =
-    let if_here = λ (is : (eqb route.net net && eqb route.to node) ≡ true). let whole : option_map_or (λ (wire : Wire). after_last links wire.hops) (find (brings net node) (wires_of (route ∷ routes) (sent ∷ hops))) 0 ≡ after_last links (hops_to (route ∷ routes) (sent ∷ hops) node net) = rw is refl in whole in
-    let if_later = λ (is : (eqb route.net net && eqb route.to node) ≡ false). let whole : option_map_or (λ (wire : Wire). after_last links wire.hops) (find (brings net node) (wires_of (route ∷ routes) (sent ∷ hops))) 0 ≡ after_last links (hops_to (route ∷ routes) (sent ∷ hops) node net) = rw is (brought_wires links node net routes hops) in whole in
+    let if_here = λ (is : (eqb route.net net && eqb route.to node) ≡ true). let whole : option_map_or (λ (wire : Wire). after_last links wire.hops) (find (brings net node) (wires_of (route ∷ routes) (sent ∷ hops))) 0 ≡ after_last links (route_hops_to (route ∷ routes) (sent ∷ hops) node net) = rw is refl in whole in
+    let if_later = λ (is : (eqb route.net net && eqb route.to node) ≡ false). let whole : option_map_or (λ (wire : Wire). after_last links wire.hops) (find (brings net node) (wires_of (route ∷ routes) (sent ∷ hops))) 0 ≡ after_last links (route_hops_to (route ∷ routes) (sent ∷ hops) node net) = rw is (brought_wires links node net routes hops) in whole in
     ⊎_elim if_here if_later (cases_Bool (eqb route.net net && eqb route.to node))
 
 module _ (ordered : Ordered) (board : Board) (plan : Plan) (routes : List Route) (hops : List (List Hop)) (leads : List ℕ) (wires : plan.wires ≡ wires_of routes hops) (settles : LeadsFollowDrivers (planned_board ordered board plan)) where
   abbrev planned : PlannedBoard
   planned = planned_board ordered board plan
 
-  brought_is : (node net : ℕ) → brought_at planned node net ≡ after_last board.links (hops_to routes hops node net)
+  brought_is : (node net : ℕ) → brought_at planned node net ≡ after_last board.links (route_hops_to routes hops node net)
   brought_is node net = ap (λ (list : List Wire). option_map_or (λ (wire : Wire). after_last board.links wire.hops) (find (brings net node) list) 0) wires ∙ brought_wires board.links node net routes hops
 
   pub lead_is : (node net : ℕ) → lead planned (home planned net) net ≡ slice_index leads net → lead planned node net ≡ lead_so_far ordered.flat board plan.chip_of routes hops leads node net
   lead_is node net right =
-      let by = λ (own : Bool). if own then slice_index leads net else after_last board.links (hops_to routes hops node net) in
+      let by = λ (own : Bool). if own then slice_index leads net else after_last board.links (route_hops_to routes hops node net) in
       let if_home = λ (is : eqb (home planned net) node ≡ true).
       let here : home planned net ≡ node = eqb-true (home planned net) node is in
       ap (λ (at : ℕ). lead planned at net) (sym here) ∙ right ∙ sym (ap by is) in

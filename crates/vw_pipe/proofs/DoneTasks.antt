@@ -5,10 +5,10 @@ use Rattle.std.proofs.lemmas.List.Folds.{list_any_more}
 use Rattle.vw_net.specs.declared.ordered.Ordered.{Ordered}
 use Rattle.vw_plan.specs.declared.need.Route.{Route}
 use Rattle.vw_pipe.specs.declared.task.Task.{Task}
-use Rattle.vw_pipe.specs.Steps.Tasks.{IsAtMost, rank}
+use Rattle.vw_pipe.specs.Steps.Tasks.{IsAtMost, task_rank}
 use Rattle.vw_pipe.specs.Steps.Underway.{AreTasks, IsOfKind, is_passed, is_task, no_task, task_at}
 
-rank_one : (a b : Bool) → rank a ≡ rank b → a ≡ b
+rank_one : (a b : Bool) → task_rank a ≡ task_rank b → a ≡ b
 rank_one false false same = refl
 rank_one true true same = refl
 rank_one false true same = absurd (omega (arith, same))
@@ -17,11 +17,11 @@ rank_one true false same = absurd (omega (arith, same))
 -- a task that is this one has its kind and its place
 pub is_task-true : (sends : Bool) (place : ℕ) (task : Task) → is_task sends place task ≡ true → (task.sends ≡ sends) × (task.place ≡ place)
 is_task-true sends place task is =
-    let parts = and_parts (eqb (rank task.sends) (rank sends)) (eqb task.place place) is in
-    (rank_one task.sends sends (eqb-true (rank task.sends) (rank sends) parts.0), eqb-true task.place place parts.1)
+    let parts = and_parts (eqb (task_rank task.sends) (task_rank sends)) (eqb task.place place) is in
+    (rank_one task.sends sends (eqb-true (task_rank task.sends) (task_rank sends) parts.0), eqb-true task.place place parts.1)
 
 pub is_task-own : (task : Task) → is_task task.sends task.place task ≡ true
-is_task-own task = and_from _ _ (eq-eqb (rank task.sends) (rank task.sends) refl) (eq-eqb task.place task.place refl)
+is_task-own task = and_from _ _ (eq-eqb (task_rank task.sends) (task_rank task.sends) refl) (eq-eqb task.place task.place refl)
 
 -- of one task more
 pub is_passed-more : (tasks : List Task) (count : ℕ) (sends : Bool) (place : ℕ) → count < length tasks → is_passed tasks (count + 1) sends place ≡ (is_passed tasks count sends place || is_task sends place (task_at tasks count))

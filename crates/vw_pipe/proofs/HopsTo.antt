@@ -12,13 +12,13 @@ use Rattle.vw_leads.specs.Pairs.{first_pair, is_number_pair, pair_in, HasPairs}
 use Rattle.vw_net.proofs.Orders.{eqb_comm}
 use Rattle.vw_plan.specs.Lead.{after_last}
 use Rattle.vw_leads.specs.Leads.{arrival_by}
-use Rattle.vw_pipe.specs.Steps.Leads.{arrived_by, hops_to, route_pairs}
+use Rattle.vw_pipe.specs.Steps.Leads.{arrived_by, route_hops_to, route_pairs}
 
 module _ (node net : ℕ) where
   -- the number of a route, where routes are numbered from a number on, leads to the hops
   abbrev FindsFrom : ℕ → List Route → List (List Hop) → Option ℕ → Type 0
-  FindsFrom from routes hops None = hops_to routes hops node net ≡ []
-  FindsFrom from routes hops (Some place) = (from ≤ place) × (place < from + length routes) × (slice_index_or hops (place - from) [] ≡ hops_to routes hops node net)
+  FindsFrom from routes hops None = route_hops_to routes hops node net ≡ []
+  FindsFrom from routes hops (Some place) = (from ≤ place) × (place < from + length routes) × (slice_index_or hops (place - from) [] ≡ route_hops_to routes hops node net)
 
   abbrev is_to : Route → Bool
   is_to route = eqb route.net net && eqb route.to node
@@ -44,8 +44,8 @@ module _ (node net : ℕ) where
 
   -- the number of a route leads to the hops
   abbrev pub Finds : List Route → List (List Hop) → Option ℕ → Type 0
-  Finds routes hops None = hops_to routes hops node net ≡ []
-  Finds routes hops (Some place) = (place < length routes) × (slice_index_or hops place [] ≡ hops_to routes hops node net)
+  Finds routes hops None = route_hops_to routes hops node net ≡ []
+  Finds routes hops (Some place) = (place < length routes) × (slice_index_or hops place [] ≡ route_hops_to routes hops node net)
 
   from_zero : (routes : List Route) (hops : List (List Hop)) (found : Option ℕ) → FindsFrom 0 routes hops found → Finds routes hops found
   from_zero routes hops None finds = finds
@@ -60,7 +60,7 @@ module _ (node net : ℕ) where
 -- a table of the pairs, and the arrivals of routes, tell when a net is brought to a node
 pub arrived : {S : Type 0} (board : Board) (routes : List Route) (hops : List (List Hop)) (table : HashMap (ℕ × ℕ) ℕ S) (arrivals : List ℕ) → length hops ≡ length routes → HasPairs (route_pairs routes) table → arrivals ≡ map (after_last board.links) hops → arrival_by table arrivals ≡ arrived_by board routes hops
 arrived board routes hops table arrivals long has are = fun_ext (λ net. fun_ext (λ node. by net node (pair_in table net node) (finds node net routes hops table long has))) where
-  by : (net node : ℕ) (found : Option ℕ) → Finds node net routes hops found → option_map_or (slice_index arrivals) found 0 ≡ after_last board.links (hops_to routes hops node net)
+  by : (net node : ℕ) (found : Option ℕ) → Finds node net routes hops found → option_map_or (slice_index arrivals) found 0 ≡ after_last board.links (route_hops_to routes hops node net)
   by net node None none = ap (after_last board.links) (sym none)
   by net node (Some place) there =
       ap (λ (list : List ℕ). slice_index list place) are

@@ -10,12 +10,12 @@ use Rattle.vw_plan.specs.Lead.{after_last, arrival}
 use Rattle.vw_leads.specs.Leads.{arrival_by}
 use Rattle.vw_leads.specs.Pairs.{HasPairs}
 use Rattle.vw_pipe.specs.declared.draft.Draft.{Draft}
-use Rattle.vw_pipe.specs.Steps.Drafts.{IsFit, microcycle_limit}
+use Rattle.vw_pipe.specs.Steps.Drafts.{IsFitDraft, microcycle_limit}
 use Rattle.vw_pipe.specs.Steps.Leads.{arrived_by, route_pairs}
 use Rattle.vw_pipe.proofs.HopsTo.{arrived}
 use Rattle.vw_pipe.proofs.LeadLimits.{last_low}
 
-module _ (ordered : Ordered) (board : Board) (routes : List Route) (draft : Draft) (fit : IsFit ordered board routes draft) where
+module _ (ordered : Ordered) (board : Board) (routes : List Route) (draft : Draft) (fit : IsFitDraft ordered board routes draft) where
   -- microcycles are early
   pub leads_low : (items : List ℕ) → items ≡ draft.leads.items → All (λ lead. lead < 2 ^ 63) items
   leads_low items same = subst (All (λ lead. lead < 2 ^ 63)) (sym same) (All-weaker (λ lead. lead ≤ microcycle_limit (length draft.table.taken)) (λ lead. lead < 2 ^ 63) (λ lead low. omega (arith, low, fit.early.few)) draft.leads.items fit.early.soon)

@@ -13,8 +13,8 @@ use Rattle.vw_plan.specs.declared.wire.Hop.{Hop}
 use Rattle.vw_plan.specs.Lead.{after_last, arrival}
 use Rattle.vw_plan.specs.Nets.{greatest_read, node_of}
 use Rattle.vw_plan.proofs.GreatestReads.{greatest_read-small}
-use Rattle.vw_pipe.specs.Steps.Leads.{hops_to, lead_so_far}
-use Rattle.vw_pipe.proofs.UntouchedMicrocycles.{hops_to-place, route_place}
+use Rattle.vw_pipe.specs.Steps.Leads.{route_hops_to, lead_so_far}
+use Rattle.vw_pipe.proofs.UntouchedMicrocycles.{route_hops_to-place, route_place}
 
 pub last_low : (links : List Link) (top : ℕ) (hops : List Hop) → All (λ hop. arrival links hop + 1 ≤ top) hops → after_last links hops ≤ top
 last_low links top [] low = omega arith
@@ -29,9 +29,9 @@ index_low top leads net low = ⊎_elim (λ within. low net 0 within) (λ past. l
 
 module _ (flat : Flat) (board : Board) (chip_of : List ℕ) (routes : List Route) (hops : List (List Hop)) (leads : List ℕ) (top : ℕ) (long : length hops ≡ length routes) (hops_are : All (All (λ hop. arrival board.links hop + 1 ≤ top)) hops) (leads_are : All (λ lead. lead ≤ top) leads) where
   pub lead_low : (node net : ℕ) → lead_so_far flat board chip_of routes hops leads node net ≤ top
-  lead_low node net = elim (eqb (node_of flat chip_of net) node) as (λ own. (if own then slice_index leads net else after_last board.links (hops_to routes hops node net)) ≤ top) [
+  lead_low node net = elim (eqb (node_of flat chip_of net) node) as (λ own. (if own then slice_index leads net else after_last board.links (route_hops_to routes hops node net)) ≤ top) [
     | true ↦ index_low top leads net leads_are
-    | false ↦ last_low board.links top (hops_to routes hops node net) (subst (All (λ hop. arrival board.links hop + 1 ≤ top)) (sym (hops_to-place routes hops node net long)) (hops_low board.links top hops (route_place routes net node) hops_are))
+    | false ↦ last_low board.links top (route_hops_to routes hops node net) (subst (All (λ hop. arrival board.links hop + 1 ≤ top)) (sym (route_hops_to-place routes hops node net long)) (hops_low board.links top hops (route_place routes net node) hops_are))
   ]
 
   pub read_low : (node : ℕ) (cell : Option Cell) → greatest_read (lead_so_far flat board chip_of routes hops leads node) cell ≤ top

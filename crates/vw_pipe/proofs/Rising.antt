@@ -7,7 +7,7 @@ use Rattle.std.specs.declared.cmp.Ordering.TheVariants.{Less, Equal, Greater}
 use Rattle.vw_net.specs.declared.ordered.Ordered.{Ordered}
 use Rattle.vw_plan.specs.declared.need.Route.{Route}
 use Rattle.vw_pipe.specs.declared.task.Task.{Task}
-use Rattle.vw_pipe.specs.Steps.Tasks.{AreRising, IsAtMost, all_tasks, rank, tasks_from}
+use Rattle.vw_pipe.specs.Steps.Tasks.{AreRising, IsAtMost, all_tasks, task_rank, tasks_from}
 
 abbrev pub task_cmp : Task → Task → Ordering
 task_cmp task other = ordering_then (nat_cmp task.turn other.turn) (ordering_then (bool_cmp task.sends other.sends) (nat_cmp task.place other.place))
@@ -16,7 +16,7 @@ at_most_trans : (one two three : Task) → IsAtMost one two → IsAtMost two thr
 at_most_trans one two three first second = record {
   turns = omega (arith, first.turns, second.turns);
   kinds = λ same. let a : one.turn ≡ two.turn = omega (arith, first.turns, second.turns, same) in let b : two.turn ≡ three.turn = omega (arith, a, same) in omega (arith, first.kinds a, second.kinds b);
-  places = λ same ranks. let a : one.turn ≡ two.turn = omega (arith, first.turns, second.turns, same) in let b : two.turn ≡ three.turn = omega (arith, a, same) in let c : rank one.sends ≡ rank two.sends = omega (arith, first.kinds a, second.kinds b, ranks) in let d : rank two.sends ≡ rank three.sends = omega (arith, c, ranks) in omega (arith, first.places a c, second.places b d);
+  places = λ same ranks. let a : one.turn ≡ two.turn = omega (arith, first.turns, second.turns, same) in let b : two.turn ≡ three.turn = omega (arith, a, same) in let c : task_rank one.sends ≡ task_rank two.sends = omega (arith, first.kinds a, second.kinds b, ranks) in let d : task_rank two.sends ≡ task_rank three.sends = omega (arith, c, ranks) in omega (arith, first.places a c, second.places b d);
 }
 
 -- what isn't less than one before it
@@ -27,7 +27,7 @@ step_numbers a b rest not_less = by (nat_cmp b a) refl where
   by Equal is = let same : b ≡ a = grind (arith, is) in (omega (arith, same), λ _. sym (ap (λ (one : Ordering). is_lt (ordering_then one rest)) is) ∙ not_less)
   by Greater is = let more : a < b = grind (arith, is) in (omega (arith, more), λ same. absurd (omega (arith, more, same)))
 
-step_sends : (one other : Bool) (rest : Ordering) → is_lt (ordering_then (bool_cmp other one) rest) ≡ false → (rank one ≤ rank other) × (rank one ≡ rank other → is_lt rest ≡ false)
+step_sends : (one other : Bool) (rest : Ordering) → is_lt (ordering_then (bool_cmp other one) rest) ≡ false → (task_rank one ≤ task_rank other) × (task_rank one ≡ task_rank other → is_lt rest ≡ false)
 step_sends false false rest not_less = (omega arith, λ same. not_less)
 step_sends false true rest not_less = (omega arith, λ same. absurd (omega (arith, same)))
 step_sends true false rest not_less = absurd (true≢false not_less)

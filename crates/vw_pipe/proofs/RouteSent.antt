@@ -18,13 +18,13 @@ use Rattle.vw_net.specs.Lists.{greatest}
 use Rattle.vw_plan.specs.Nets.{driving_cell, node_of}
 use Rattle.vw_plan.specs.Routes.{AreRoutes, IsRoute, steps_of}
 use Rattle.vw_slots.specs.declared.slot.Taken.{Taken}
-use Rattle.vw_slots.specs.Slots.{is_taken}
+use Rattle.vw_slots.specs.Slots.{is_pin_taken}
 use Rattle.vw_pipe.specs.declared.draft.Draft.{Draft}
 use Rattle.vw_pipe.specs.declared.task.Task.{Task}
-use Rattle.vw_pipe.specs.Steps.SentHops.{AreSent, hop_link, taken_by}
+use Rattle.vw_pipe.specs.Steps.SentHops.{AreSent, hop_link, hop_takes}
 use Rattle.vw_pipe.specs.Steps.FinishedSchedules.{all_hops, uses}
 use Rattle.vw_pipe.specs.Steps.Turns.{AreTurns}
-use Rattle.vw_pipe.specs.Steps.Drafts.{Does, IsSentMore, hops_at, microcycle_limit}
+use Rattle.vw_pipe.specs.Steps.Drafts.{DoesTask, IsSentMore, hops_at, microcycle_limit}
 use Rattle.vw_pipe.specs.Steps.Leads.{usable_so_far}
 use Rattle.vw_pipe.specs.Steps.Underway.{AreTasks, IsOfKind, IsSentOff, IsUnderway, is_passed, is_task, ready_by, task_at}
 use Rattle.vw_pipe.proofs.DoneTasks.{is_passed-more, is_task-own, is_task-true, kind_at, not_done_before}
@@ -59,7 +59,7 @@ settle_low board true = board.quick
 settle_low board false = omega arith
 
 module _ (ordered : Ordered) (board : Board) (chip_of : List ℕ) (routes : List Route) (turns : List ℕ) (tasks : List Task) (each : length chip_of ≡ length ordered.flat.cells) (behind : AreTurns ordered turns) (are : AreTasks ordered turns routes tasks) (are_routes : AreRoutes ordered.flat board chip_of routes) (count : ℕ) (within : count < length tasks) where
-  module _ (draft new : Draft) (way : IsUnderway ordered board chip_of routes tasks count draft) (sends : (task_at tasks count).sends ≡ true) (does : Does ordered board chip_of routes true (task_at tasks count).place draft new) where
+  module _ (draft new : Draft) (way : IsUnderway ordered board chip_of routes tasks count draft) (sends : (task_at tasks count).sends ≡ true) (does : DoesTask ordered board chip_of routes true (task_at tasks count).place draft new) where
     abbrev number : ℕ
     number = (task_at tasks count).place
 
@@ -115,7 +115,7 @@ module _ (ordered : Ordered) (board : Board) (chip_of : List ℕ) (routes : List
       as_long = sent_long board draft.table.taken ready (steps_of route.nodes) sent_hops has.sent
 
       taken_long : length new.table.taken ≡ length draft.table.taken + length sent_hops
-      taken_long = let long : length (map (taken_by board) sent_hops) ≡ length sent_hops = length-map sent_hops (taken_by board) in omega (arith, ap length has.taken, length-append draft.table.taken (map (taken_by board) sent_hops), long)
+      taken_long = let long : length (map (hop_takes board) sent_hops) ≡ length sent_hops = length-map sent_hops (hop_takes board) in omega (arith, ap length has.taken, length-append draft.table.taken (map (hop_takes board) sent_hops), long)
 
       ready_low : ready ≤ microcycle_limit (length draft.table.taken) + 15
       ready_low = omega (arith, lead_low ordered.flat board chip_of routes draft.hops.items draft.leads.items (microcycle_limit (length draft.table.taken)) way.fit.long way.fit.early.sent way.fit.early.soon (node_of ordered.flat chip_of route.net) route.net, settle_low board (is_gate (driving_cell ordered.flat route.net) && eqb (node_of ordered.flat chip_of route.net) (node_of ordered.flat chip_of route.net)))
@@ -129,8 +129,8 @@ module _ (ordered : Ordered) (board : Board) (chip_of : List ℕ) (routes : List
         sent = subst (λ (hops : List Hop). AreSent board sent.before (ready_by ordered board chip_of routes new.hops.items new.leads.items its_own.net) (steps_of its_own.nodes) hops) (sym (hops_other other (not_own other done)))
             (subst (λ (microcycle : ℕ). AreSent board sent.before microcycle (steps_of its_own.nodes) (hops_at draft other)) (sym (ready_kept ordered board chip_of routes tasks count draft.hops.items new.hops.items draft.leads.items new.leads.items kept its_own.net (home_done ordered board chip_of routes turns tasks each behind are are_routes count within other its_own is done))) sent.sent);
         stays = λ link pin at is.
-            ap (λ (list : List Taken). is_taken list link pin at) has.taken ∙ list_any-append (λ slot. (eqb slot.link link && eqb slot.at at) && eqb slot.pin pin) draft.table.taken (map (taken_by board) sent_hops)
-            ∙ or_left _ _ (sent.stays link pin at (subst (λ (hops : List Hop). is_taken (sent.before ++ map (taken_by board) hops) link pin at ≡ true) (hops_other other (not_own other done)) is));
+            ap (λ (list : List Taken). is_pin_taken list link pin at) has.taken ∙ list_any-append (λ slot. (eqb slot.link link && eqb slot.at at) && eqb slot.pin pin) draft.table.taken (map (hop_takes board) sent_hops)
+            ∙ or_left _ _ (sent.stays link pin at (subst (λ (hops : List Hop). is_pin_taken (sent.before ++ map (hop_takes board) hops) link pin at ≡ true) (hops_other other (not_own other done)) is));
       }
 
       ready_now : ready_by ordered board chip_of routes new.hops.items new.leads.items route.net ≡ ready
@@ -140,7 +140,7 @@ module _ (ordered : Ordered) (board : Board) (chip_of : List ℕ) (routes : List
       own_off = record {
         before = draft.table.taken;
         sent = subst (λ (microcycle : ℕ). AreSent board draft.table.taken microcycle (steps_of route.nodes) sent_hops) (sym ready_now) has.sent;
-        stays = λ link pin at is. ap (λ (list : List Taken). is_taken list link pin at) has.taken ∙ is;
+        stays = λ link pin at is. ap (λ (list : List Taken). is_pin_taken list link pin at) has.taken ∙ is;
       }
 
       sent_at : (other : ℕ) (its_own : Route) → slice_get routes other ≡ Some its_own → is_passed tasks (count + 1) true other ≡ true → IsSentOff ordered board chip_of routes new its_own (hops_at new other)
@@ -151,14 +151,14 @@ module _ (ordered : Ordered) (board : Board) (chip_of : List ℕ) (routes : List
           subst (λ (r : Route). IsSentOff ordered board chip_of routes new r (hops_at new other)) one (subst (λ (n : ℕ). IsSentOff ordered board chip_of routes new route (hops_at new n)) same own_off) in
           ⊎_elim (λ before. off other its_own is before (way.sent other its_own is before)) here (or_cases (is_passed tasks count true other) (is_task true other (task_at tasks count)) (sym (is_passed-more tasks count true other within) ∙ done))
 
-      slots_at : (hop : Hop) → uses hop (all_hops new.hops.items) ≡ (if is_taken new.table.taken (hop_link board hop) hop.pin hop.at then 1 else 0)
+      slots_at : (hop : Hop) → uses hop (all_hops new.hops.items) ≡ (if is_pin_taken new.table.taken (hop_link board hop) hop.pin hop.at then 1 else 0)
       slots_at hop =
           let from = node_of ordered.flat chip_of route.net in
           let sent_from : AreSent board draft.table.taken ready (steps_of (from ∷ its.further)) sent_hops = subst (λ (nodes : List ℕ). AreSent board draft.table.taken ready (steps_of nodes) sent_hops) its.nodes has.sent in
           ap (λ (list : List (List Hop)). uses hop (all_hops list)) has.hops
           ∙ uses_set hop draft.hops.items number sent_hops inside none_yet
           ∙ tally_sent board (λ (one : Hop). uses one (all_hops draft.hops.items)) draft.table.taken ready from its.further sent_hops (route_linked ordered board chip_of route its from its.further its.nodes) sent_from way.slots hop
-          ∙ ap (λ (list : List Taken). if is_taken list (hop_link board hop) hop.pin hop.at then 1 else 0) (sym has.taken)
+          ∙ ap (λ (list : List Taken). if is_pin_taken list (hop_link board hop) hop.pin hop.at then 1 else 0) (sym has.taken)
 
       sent_one : IsUnderway ordered board chip_of routes tasks (count + 1) new
       sent_one = record {

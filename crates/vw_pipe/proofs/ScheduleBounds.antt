@@ -20,8 +20,8 @@ use Rattle.vw_plan.specs.Nets.{driving_cell, node_of}
 use Rattle.vw_plan.specs.Routes.{steps_of}
 use Rattle.vw_pipe.specs.declared.draft.Draft.{Draft}
 use Rattle.vw_pipe.specs.Steps.FinishedSchedules.{IsAlong, cell_microcycle, latest}
-use Rattle.vw_pipe.specs.Steps.Drafts.{IsFit, microcycle_limit}
-use Rattle.vw_pipe.specs.Steps.Leads.{hops_to, lead_so_far, usable_so_far, wires_of}
+use Rattle.vw_pipe.specs.Steps.Drafts.{IsFitDraft, microcycle_limit}
+use Rattle.vw_pipe.specs.Steps.Leads.{route_hops_to, lead_so_far, usable_so_far, wires_of}
 use Rattle.vw_pipe.proofs.Scheduled.{last_within, latest_at_most}
 
 pub as_many_wires : (routes : List Route) (hops : List (List Hop)) → length hops ≡ length routes → length (wires_of routes hops) ≡ length routes
@@ -45,15 +45,15 @@ wires_early links bound (route ∷ routes) (sent ∷ hops) small early =
     (All-weaker (λ hop. arrival links hop + 1 ≤ bound) (λ hop. hop.at ≤ 2 ^ 62) (λ hop is. omega (arith, is, small)) sent (All-head (All (λ hop. arrival links hop + 1 ≤ bound)) sent hops early))
     (wires_early links bound routes hops small (All-tail (All (λ hop. arrival links hop + 1 ≤ bound)) sent hops early))
 
-pub hops_to_early : (links : List Link) (bound node net : ℕ) (routes : List Route) (hops : List (List Hop)) → All (All (λ hop. arrival links hop + 1 ≤ bound)) hops → after_last links (hops_to routes hops node net) ≤ bound
+pub hops_to_early : (links : List Link) (bound node net : ℕ) (routes : List Route) (hops : List (List Hop)) → All (All (λ hop. arrival links hop + 1 ≤ bound)) hops → after_last links (route_hops_to routes hops node net) ≤ bound
 hops_to_early links bound node net [] hops early = omega arith
 hops_to_early links bound node net (route ∷ routes) [] early = omega arith
 hops_to_early links bound node net (route ∷ routes) (sent ∷ hops) early =
-    let if_here = λ (is : (eqb route.net net && eqb route.to node) ≡ true). let whole : after_last links (hops_to (route ∷ routes) (sent ∷ hops) node net) ≤ bound = rw is (last_within links bound sent (All-weaker (λ hop. arrival links hop + 1 ≤ bound) (λ hop. arrival links hop < bound) (λ hop its. omega (arith, its)) sent (All-head (All (λ hop. arrival links hop + 1 ≤ bound)) sent hops early))) in whole in
-    let if_later = λ (is : (eqb route.net net && eqb route.to node) ≡ false). let whole : after_last links (hops_to (route ∷ routes) (sent ∷ hops) node net) ≤ bound = rw is (hops_to_early links bound node net routes hops (All-tail (All (λ hop. arrival links hop + 1 ≤ bound)) sent hops early)) in whole in
+    let if_here = λ (is : (eqb route.net net && eqb route.to node) ≡ true). let whole : after_last links (route_hops_to (route ∷ routes) (sent ∷ hops) node net) ≤ bound = rw is (last_within links bound sent (All-weaker (λ hop. arrival links hop + 1 ≤ bound) (λ hop. arrival links hop < bound) (λ hop its. omega (arith, its)) sent (All-head (All (λ hop. arrival links hop + 1 ≤ bound)) sent hops early))) in whole in
+    let if_later = λ (is : (eqb route.net net && eqb route.to node) ≡ false). let whole : after_last links (route_hops_to (route ∷ routes) (sent ∷ hops) node net) ≤ bound = rw is (hops_to_early links bound node net routes hops (All-tail (All (λ hop. arrival links hop + 1 ≤ bound)) sent hops early)) in whole in
     ⊎_elim if_here if_later (cases_Bool (eqb route.net net && eqb route.to node))
 
-module _ (ordered : Ordered) (board : Board) (chip_of : List ℕ) (routes : List Route) (draft : Draft) (fit : IsFit ordered board routes draft) where
+module _ (ordered : Ordered) (board : Board) (chip_of : List ℕ) (routes : List Route) (draft : Draft) (fit : IsFitDraft ordered board routes draft) where
   abbrev last_microcycle : ℕ
   last_microcycle = microcycle_limit (length draft.table.taken)
 

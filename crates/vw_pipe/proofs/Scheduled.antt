@@ -30,7 +30,7 @@ use Rattle.vw_plan.specs.declared.wire.Wire.{Wire}
 use Rattle.vw_plan.specs.Earliest.{AreEarliest}
 use Rattle.vw_pipe.specs.declared.draft.Draft.{Draft}
 use Rattle.vw_pipe.specs.Schedules.{IsSchedule}
-use Rattle.vw_pipe.specs.Steps.FinishedSchedules.{IsMadeOf, IsAlong, IsTasksDone, IsSentWell, all_hops, cell_microcycle, latest}
+use Rattle.vw_pipe.specs.Steps.FinishedSchedules.{IsPlanOf, IsAlong, IsTasksDone, IsSentWell, all_hops, cell_microcycle, latest}
 use Rattle.vw_pipe.specs.Steps.Leads.{wires_of}
 use Rattle.vw_pipe.proofs.WiresOfRoutes.{as_many, before_last, follows, leads_along, once_apart}
 use Rattle.vw_plan.proofs.LeadLevels.{LeadsFollowDrivers}
@@ -129,7 +129,7 @@ module _ (ordered : Ordered) (board : Board) (plan : Plan) where
       let nets = flat.inputs + length flat.cells in
       All-head (λ net. net < nets) d [] (cell_fits nets flat.cells number (Latch d init) flat.cells_fit is).1
 
-  module _ (chip_of : List ℕ) (routes : List Route) (draft : Draft) (done : IsTasksDone ordered board chip_of routes draft) (law : (one : PlannedBoard) → LeadsFollowDrivers one) (has : IsMadeOf chip_of routes draft.hops.items plan) where
+  module _ (chip_of : List ℕ) (routes : List Route) (draft : Draft) (done : IsTasksDone ordered board chip_of routes draft) (law : (one : PlannedBoard) → LeadsFollowDrivers one) (has : IsPlanOf chip_of routes draft.hops.items plan) where
     abbrev microcycle_of : ℕ → Cell → ℕ
     microcycle_of = cell_microcycle flat board chip_of routes draft.hops.items draft.leads.items
 
@@ -175,7 +175,7 @@ module _ (ordered : Ordered) (board : Board) (plan : Plan) (routes : List Route)
   abbrev hops : List (List Hop)
   hops = draft.hops.items
 
-  has : IsMadeOf plan.chip_of routes hops plan
+  has : IsPlanOf plan.chip_of routes hops plan
   has = record { chips = refl; wires = wires }
 
   needed_all : All (λ route. is_needed ordered.flat plan.chip_of route.net route.to ≡ true) routes
@@ -204,7 +204,7 @@ module _ (ordered : Ordered) (board : Board) (plan : Plan) (routes : List Route)
     sound = sound;
     earliest = All-weaker (IsSentWell its) (λ wire. AreEarliest board plan (usable its (home its wire.net) wire.net) wire.hops) (λ wire well. well.earliest) plan.wires (done.sent_well plan has);
     least_period = λ other same_chips same_wires shorter sound_other.
-        let other_has : IsMadeOf plan.chip_of routes hops other = record { chips = same_chips; wires = same_wires ∙ wires } in
+        let other_has : IsPlanOf plan.chip_of routes hops other = record { chips = same_chips; wires = same_wires ∙ wires } in
         let not_shorter : max (max draft.after 1) (latest (cell_microcycle ordered.flat board plan.chip_of routes hops draft.leads.items) 0 ordered.flat.cells) ≤ other.period = period_long ordered board other plan.chip_of routes draft done law other_has sound_other in
         omega (arith, not_shorter, period, shorter);
   }

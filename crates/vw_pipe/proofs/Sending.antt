@@ -13,7 +13,7 @@ use Rattle.vw_plan.specs.Walks.{has_link}
 use Rattle.vw_slots.specs.declared.slot.Slot.{Slot}
 use Rattle.vw_slots.specs.declared.slot.Taken.{Taken}
 use Rattle.vw_slots.specs.Slots.{Slots, IsFirstFree, with_slot}
-use Rattle.vw_pipe.specs.Steps.SentHops.{AreLinked, AreSent, link_place, hop_link, slot_of, slots_of, taken_by}
+use Rattle.vw_pipe.specs.Steps.SentHops.{AreLinked, AreSent, link_place, hop_link, hop_slot, slots_of, hop_takes}
 
 -- where there is a link, it has a number
 pub place_within : (links : List Link) (from to : ℕ) → has_link links from to ≡ true → link_place links from to < length links
@@ -55,7 +55,7 @@ cut_at further place within = let next : suc place ≡ place + 1 = omega arith i
 pub record IsOnItsWay (board : Board) (start : List Taken) (ready first : ℕ) (further : List ℕ) (slots : Slots) (hops : List Hop) (from microcycle place : ℕ) : Type 0 where
   pub linked : AreLinked board.links from (drop place further)
   pub widths : slots.widths ≡ map (λ link. link.width) board.links
-  pub taken : slots.taken ≡ start ++ map (taken_by board) hops
+  pub taken : slots.taken ≡ start ++ map (hop_takes board) hops
   pub count : length hops ≡ place
   pub room : length further ≤ place + slots.spare
   pub soon : microcycle ≤ ready + place * (2 ^ 30 + 16)
@@ -73,21 +73,21 @@ module _ (board : Board) (start : List Taken) (ready first : ℕ) (further : Lis
       let cut : drop place further ≡ to ∷ drop (place + 1) further = cut_at further place within in
       let linked : AreLinked board.links from (to ∷ drop (place + 1) further) = subst (λ (left : List ℕ). AreLinked board.links from left) cut way.linked in
       let its_link : link ≡ hop_link board hop = link_is ∙ ap₂ (link_place board.links) (sym from_is) (sym to_is) in
-      let its_slot : slot ≡ slot_of hop = ap₂ slot_at (sym pin_is) (sym at_is) in
-      let its_free : IsFirstFree (slots_of board slots.taken) (hop_link board hop) microcycle (slot_of hop) = subst (λ (one : Slot). IsFirstFree (slots_of board slots.taken) (hop_link board hop) microcycle one) its_slot (subst (λ (number : ℕ). IsFirstFree (slots_of board slots.taken) number microcycle slot) its_link (free_in slots board link microcycle slot way.widths free)) in
-      let its_taken : after.taken ≡ slots.taken ++ taken_by board hop ∷ [] = ap (λ (s : Slots). s.taken) after_is ∙ ap₂ (λ (number : ℕ) (one : Slot). slots.taken ++ taken_at number one ∷ []) its_link its_slot in
-      let long : length slots.taken ≡ length start + place = ap length way.taken ∙ length-append start (map (taken_by board) hops) ∙ ap (λ (count : ℕ). length start + count) (length-map hops (taken_by board) ∙ way.count) in
+      let its_slot : slot ≡ hop_slot hop = ap₂ slot_at (sym pin_is) (sym at_is) in
+      let its_free : IsFirstFree (slots_of board slots.taken) (hop_link board hop) microcycle (hop_slot hop) = subst (λ (one : Slot). IsFirstFree (slots_of board slots.taken) (hop_link board hop) microcycle one) its_slot (subst (λ (number : ℕ). IsFirstFree (slots_of board slots.taken) number microcycle slot) its_link (free_in slots board link microcycle slot way.widths free)) in
+      let its_taken : after.taken ≡ slots.taken ++ hop_takes board hop ∷ [] = ap (λ (s : Slots). s.taken) after_is ∙ ap₂ (λ (number : ℕ) (one : Slot). slots.taken ++ taken_at number one ∷ []) its_link its_slot in
+      let long : length slots.taken ≡ length start + place = ap length way.taken ∙ length-append start (map (hop_takes board) hops) ∙ ap (λ (count : ℕ). length start + count) (length-map hops (hop_takes board) ∙ way.count) in
       let in_time : microcycle ≤ slot.at = free.in_time in
       record {
         linked = linked.1;
         widths = ap (λ (s : Slots). s.widths) after_is ∙ way.widths;
-        taken = its_taken ∙ ap (λ (list : List Taken). list ++ taken_by board hop ∷ []) way.taken ∙ append_assoc start (map (taken_by board) hops) (taken_by board hop ∷ []) ∙ ap (λ (list : List Taken). start ++ list) (sym (map-append (taken_by board) hops (hop ∷ []))) ∙ ap (λ (list : List Hop). start ++ map (taken_by board) list) (sym later_is);
+        taken = its_taken ∙ ap (λ (list : List Taken). list ++ hop_takes board hop ∷ []) way.taken ∙ append_assoc start (map (hop_takes board) hops) (hop_takes board hop ∷ []) ∙ ap (λ (list : List Taken). start ++ list) (sym (map-append (hop_takes board) hops (hop ∷ []))) ∙ ap (λ (list : List Hop). start ++ map (hop_takes board) list) (sym later_is);
         count = ap length later_is ∙ length-append hops (hop ∷ []) ∙ ap (λ (count : ℕ). count + 1) way.count;
         room = omega (arith, ap (λ (s : Slots). s.spare) after_is, way.room);
         soon = omega (arith, way.soon, soon, long, few, next_is, at_is, lag_low board hop);
         early = subst (All (λ one. arrival board.links one + 1 ≤ next)) (sym later_is) (All-push (λ one. arrival board.links one + 1 ≤ next) hops hop (All-weaker (λ one. arrival board.links one + 1 ≤ microcycle) (λ one. arrival board.links one + 1 ≤ next) (λ one is. omega (arith, is, in_time, next_is, at_is)) hops way.early) (omega (arith, next_is)));
         sent = λ rest is.
-            let rest_sent : AreSent board (slots.taken ++ taken_by board hop ∷ []) (arrival board.links hop + 1) (steps_of (to ∷ drop (place + 1) further)) rest = subst (λ (at : ℕ). AreSent board (slots.taken ++ taken_by board hop ∷ []) at (steps_of (to ∷ drop (place + 1) further)) rest) next_is (subst (λ (taken : List Taken). AreSent board taken next (steps_of (to ∷ drop (place + 1) further)) rest) its_taken is) in
+            let rest_sent : AreSent board (slots.taken ++ hop_takes board hop ∷ []) (arrival board.links hop + 1) (steps_of (to ∷ drop (place + 1) further)) rest = subst (λ (at : ℕ). AreSent board (slots.taken ++ hop_takes board hop ∷ []) at (steps_of (to ∷ drop (place + 1) further)) rest) next_is (subst (λ (taken : List Taken). AreSent board taken next (steps_of (to ∷ drop (place + 1) further)) rest) its_taken is) in
             let step : (hop.from, hop.to) ≡ (from, to) = ap₂ (λ (a b : ℕ). (a, b)) from_is to_is in
             let more : AreSent board slots.taken microcycle (steps_of (from ∷ to ∷ drop (place + 1) further)) (hop ∷ rest) = (step, its_free, rest_sent) in
             subst (AreSent board start ready (steps_of (first ∷ further))) (sym (append_assoc hops (hop ∷ []) rest) ∙ ap (λ (list : List Hop). list ++ rest) (sym later_is)) (way.sent (hop ∷ rest) (subst (λ (left : List ℕ). AreSent board slots.taken microcycle (steps_of (from ∷ left)) (hop ∷ rest)) (sym cut) more));

@@ -13,7 +13,7 @@ use Rattle.vw_plan.specs.Routes.{steps_of}
 use Rattle.vw_plan.specs.Sound.{has_pin, rises}
 use Rattle.vw_plan.specs.Walks.{has_link}
 use Rattle.vw_slots.specs.declared.slot.Taken.{Taken}
-use Rattle.vw_pipe.specs.Steps.SentHops.{AreLinked, AreSent, link_place, taken_by}
+use Rattle.vw_pipe.specs.Steps.SentHops.{AreLinked, AreSent, link_place, hop_takes}
 
 module _ (board : Board) where
   -- the hops go the steps
@@ -21,7 +21,7 @@ module _ (board : Board) where
   sent_steps taken ready [] [] sent = refl
   sent_steps taken ready [] (hop ∷ hops) sent = absurd sent
   sent_steps taken ready (step ∷ steps) [] sent = absurd sent
-  sent_steps taken ready (step ∷ steps) (hop ∷ hops) sent = ap₂ (λ (one : ℕ × ℕ) (rest : List (ℕ × ℕ)). one ∷ rest) sent.0 (sent_steps (taken ++ taken_by board hop ∷ []) (arrival board.links hop + 1) steps hops sent.2)
+  sent_steps taken ready (step ∷ steps) (hop ∷ hops) sent = ap₂ (λ (one : ℕ × ℕ) (rest : List (ℕ × ℕ)). one ∷ rest) sent.0 (sent_steps (taken ++ hop_takes board hop ∷ []) (arrival board.links hop + 1) steps hops sent.2)
 
   -- each is later than the one before it
   pub sent_rises : (taken : List Taken) (ready : ℕ) (steps : List (ℕ × ℕ)) (hops : List Hop) → AreSent board taken ready steps hops → rises board.links hops ≡ true
@@ -33,7 +33,7 @@ module _ (board : Board) where
   sent_rises taken ready (step ∷ second ∷ steps) (hop ∷ []) sent = absurd sent.2
   sent_rises taken ready (step ∷ second ∷ steps) (hop ∷ next ∷ hops) sent =
       let later : arrival board.links hop < next.at = let in_time : arrival board.links hop + 1 ≤ next.at = sent.2.1.in_time in omega arith in
-      and_from (nat_lt (arrival board.links hop) next.at) (rises board.links (next ∷ hops)) (lt-ltb (arrival board.links hop) next.at later) (sent_rises (taken ++ taken_by board hop ∷ []) (arrival board.links hop + 1) (second ∷ steps) (next ∷ hops) sent.2)
+      and_from (nat_lt (arrival board.links hop) next.at) (rises board.links (next ∷ hops)) (lt-ltb (arrival board.links hop) next.at later) (sent_rises (taken ++ hop_takes board hop ∷ []) (arrival board.links hop + 1) (second ∷ steps) (next ∷ hops) sent.2)
 
   -- the first isn't before the microcycle
   pub sent_ready : (taken : List Taken) (ready : ℕ) (steps : List (ℕ × ℕ)) (hops : List Hop) → 0 < length steps → AreSent board taken ready steps hops → ForSome (slice_get hops 0) (λ hop. ready ≤ hop.at)
@@ -64,4 +64,4 @@ module _ (board : Board) where
       let its_from : hop.from ≡ from = ap (λ (step : ℕ × ℕ). step.0) sent.0 in
       let its_to : hop.to ≡ to = ap (λ (step : ℕ × ℕ). step.1) sent.0 in
       let there : has_link board.links hop.from hop.to ≡ true = ap₂ (has_link board.links) its_from its_to ∙ linked.0 in
-      All-cons (λ one. has_pin board.links one ≡ true) hop hops (has_pin_within board.links hop there sent.1.within) (sent_pins (taken ++ taken_by board hop ∷ []) (arrival board.links hop + 1) to further hops linked.1 sent.2)
+      All-cons (λ one. has_pin board.links one ≡ true) hop hops (has_pin_within board.links hop there sent.1.within) (sent_pins (taken ++ hop_takes board hop ∷ []) (arrival board.links hop + 1) to further hops linked.1 sent.2)

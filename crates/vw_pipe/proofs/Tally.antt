@@ -15,8 +15,8 @@ use Rattle.vw_plan.specs.Routes.{steps_of}
 use Rattle.vw_plan.specs.Sound.{share_pin}
 use Rattle.vw_plan.specs.Walks.{has_link}
 use Rattle.vw_slots.specs.declared.slot.Taken.{Taken}
-use Rattle.vw_slots.specs.Slots.{is_taken}
-use Rattle.vw_pipe.specs.Steps.SentHops.{AreLinked, AreSent, link_place, hop_link, taken_by}
+use Rattle.vw_slots.specs.Slots.{is_pin_taken}
+use Rattle.vw_pipe.specs.Steps.SentHops.{AreLinked, AreSent, link_place, hop_link, hop_takes}
 use Rattle.vw_pipe.specs.Steps.FinishedSchedules.{all_hops, uses}
 
 -- links of one number are one
@@ -44,7 +44,7 @@ same_ends (link ∷ links) a b c d there same =
 module _ (board : Board) where
   -- whether the pin and the microcycle of a hop are taken
   abbrev pub is_in : List Taken → Hop → Bool
-  is_in taken hop = is_taken taken (hop_link board hop) hop.pin hop.at
+  is_in taken hop = is_pin_taken taken (hop_link board hop) hop.pin hop.at
 
   abbrev takes_slot : Hop → Hop → Bool
   takes_slot other hop = (eqb (hop_link board other) (hop_link board hop) && eqb other.at hop.at) && eqb other.pin hop.pin
@@ -67,8 +67,8 @@ module _ (board : Board) where
         let ends = same_ends board.links other.from other.to hop.from hop.to there (eqb-true (hop_link board other) (hop_link board hop) slot.0) in
         and_from _ _ (and_from _ _ (eq-eqb hop.from other.from (sym ends.0)) (eq-eqb hop.to other.to (sym ends.1))) (and_from _ _ (eq-eqb hop.pin other.pin (sym (eqb-true other.pin hop.pin parts.1))) (eq-eqb hop.at other.at (sym (eqb-true other.at hop.at slot.1))))
 
-  in_more : (taken : List Taken) (hop other : Hop) → is_in (taken ++ taken_by board other ∷ []) hop ≡ (is_in taken hop || takes_slot other hop)
-  in_more taken hop other = list_any-append (λ slot. (eqb slot.link (hop_link board hop) && eqb slot.at hop.at) && eqb slot.pin hop.pin) taken (taken_by board other ∷ []) ∙ ap (λ (bit : Bool). is_in taken hop || bit) (or-false (takes_slot other hop))
+  in_more : (taken : List Taken) (hop other : Hop) → is_in (taken ++ hop_takes board other ∷ []) hop ≡ (is_in taken hop || takes_slot other hop)
+  in_more taken hop other = list_any-append (λ slot. (eqb slot.link (hop_link board hop) && eqb slot.at hop.at) && eqb slot.pin hop.pin) taken (hop_takes board other ∷ []) ∙ ap (λ (bit : Bool). is_in taken hop || bit) (or-false (takes_slot other hop))
 
   one_more_bit : (before own : Bool) → (own ≡ true → before ≡ false) → one_if before + one_if own ≡ one_if (before || own)
   one_more_bit true true apart = absurd (true≢false (apart refl))
@@ -77,17 +77,17 @@ module _ (board : Board) where
   one_more_bit false false apart = refl
 
   -- one more hop is one more taken slot
-  tally_one : (count : Hop → ℕ) (taken : List Taken) (other : Hop) → has_link board.links other.from other.to ≡ true → (is_in taken other ≡ true → ⊥) → ((hop : Hop) → count hop ≡ one_if (is_in taken hop)) → (hop : Hop) → count hop + one_if (share_pin hop other) ≡ one_if (is_in (taken ++ taken_by board other ∷ []) hop)
+  tally_one : (count : Hop → ℕ) (taken : List Taken) (other : Hop) → has_link board.links other.from other.to ≡ true → (is_in taken other ≡ true → ⊥) → ((hop : Hop) → count hop ≡ one_if (is_in taken hop)) → (hop : Hop) → count hop + one_if (share_pin hop other) ≡ one_if (is_in (taken ++ hop_takes board other ∷ []) hop)
   tally_one count taken other there free tally hop =
       let apart = λ (is : takes_slot other hop ≡ true).
       let parts = and_parts (eqb (hop_link board other) (hop_link board hop) && eqb other.at hop.at) (eqb other.pin hop.pin) is in
       let slot = and_parts (eqb (hop_link board other) (hop_link board hop)) (eqb other.at hop.at) parts.0 in
-      let same : is_in taken other ≡ is_in taken hop = ap₂ (λ (place at : ℕ). is_taken taken place other.pin at) (eqb-true (hop_link board other) (hop_link board hop) slot.0) (eqb-true other.at hop.at slot.1) ∙ ap (λ (pin : ℕ). is_taken taken (hop_link board hop) pin hop.at) (eqb-true other.pin hop.pin parts.1) in
+      let same : is_in taken other ≡ is_in taken hop = ap₂ (λ (place at : ℕ). is_pin_taken taken place other.pin at) (eqb-true (hop_link board other) (hop_link board hop) slot.0) (eqb-true other.at hop.at slot.1) ∙ ap (λ (pin : ℕ). is_pin_taken taken (hop_link board hop) pin hop.at) (eqb-true other.pin hop.pin parts.1) in
       let not_before = λ (before : is_in taken hop ≡ true). free (same ∙ before) in
       let whole : is_in taken hop ≡ false = ⊎_elim (λ before. absurd (not_before before)) (λ none. none) (cases_Bool (is_in taken hop)) in whole in
       ap₂ (λ (a : ℕ) (bit : Bool). a + one_if bit) (tally hop) (shares hop other there) ∙ one_more_bit (is_in taken hop) (takes_slot other hop) apart ∙ ap one_if (sym (in_more taken hop other))
 
-  pub tally_sent : (count : Hop → ℕ) (taken : List Taken) (ready from : ℕ) (further : List ℕ) (hops : List Hop) → AreLinked board.links from further → AreSent board taken ready (steps_of (from ∷ further)) hops → ((hop : Hop) → count hop ≡ one_if (is_in taken hop)) → (hop : Hop) → count hop + uses hop hops ≡ one_if (is_in (taken ++ map (taken_by board) hops) hop)
+  pub tally_sent : (count : Hop → ℕ) (taken : List Taken) (ready from : ℕ) (further : List ℕ) (hops : List Hop) → AreLinked board.links from further → AreSent board taken ready (steps_of (from ∷ further)) hops → ((hop : Hop) → count hop ≡ one_if (is_in taken hop)) → (hop : Hop) → count hop + uses hop hops ≡ one_if (is_in (taken ++ map (hop_takes board) hops) hop)
   tally_sent count taken ready from [] [] linked sent tally hop =
       let none : taken ++ [] ≡ taken = append-nil taken in
       let nothing : count hop + 0 ≡ count hop = omega arith in
@@ -98,8 +98,8 @@ module _ (board : Board) where
       let its_from : next.from ≡ from = ap (λ (step : ℕ × ℕ). step.0) sent.0 in
       let its_to : next.to ≡ to = ap (λ (step : ℕ × ℕ). step.1) sent.0 in
       let there : has_link board.links next.from next.to ≡ true = ap₂ (has_link board.links) its_from its_to ∙ linked.0 in
-      let more = tally_sent (λ one. count one + one_if (share_pin one next)) (taken ++ taken_by board next ∷ []) (arrival board.links next + 1) to further hops linked.1 sent.2 (tally_one count taken next there sent.1.free tally) hop in
-      let joined : (taken ++ taken_by board next ∷ []) ++ map (taken_by board) hops ≡ taken ++ taken_by board next ∷ map (taken_by board) hops = append_assoc taken (taken_by board next ∷ []) (map (taken_by board) hops) in
+      let more = tally_sent (λ one. count one + one_if (share_pin one next)) (taken ++ hop_takes board next ∷ []) (arrival board.links next + 1) to further hops linked.1 sent.2 (tally_one count taken next there sent.1.free tally) hop in
+      let joined : (taken ++ hop_takes board next ∷ []) ++ map (hop_takes board) hops ≡ taken ++ hop_takes board next ∷ map (hop_takes board) hops = append_assoc taken (hop_takes board next ∷ []) (map (hop_takes board) hops) in
       let sum : count hop + (one_if (share_pin hop next) + uses hop hops) ≡ count hop + one_if (share_pin hop next) + uses hop hops = omega arith in
       sum ∙ more ∙ ap (λ (list : List Taken). one_if (is_in list hop)) joined
 

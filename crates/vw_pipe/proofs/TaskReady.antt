@@ -17,7 +17,7 @@ use Rattle.vw_plan.specs.Walks.{IsWalk}
 use Rattle.vw_slots.specs.declared.slot.Taken.{Taken}
 use Rattle.vw_pipe.specs.declared.draft.Draft.{Draft}
 use Rattle.vw_pipe.specs.declared.task.Task.{Task}
-use Rattle.vw_pipe.specs.Steps.SentHops.{AreLinked, AreSent, taken_by}
+use Rattle.vw_pipe.specs.Steps.SentHops.{AreLinked, AreSent, hop_takes}
 use Rattle.vw_pipe.specs.Steps.FinishedSchedules.{all_hops}
 use Rattle.vw_pipe.specs.Steps.Drafts.{IsDraftReady, IsReadyKind, hops_at}
 use Rattle.vw_pipe.specs.Steps.Underway.{AreTasks, IsOfKind, IsUnderway, is_passed, task_at}
@@ -28,7 +28,7 @@ pub sent_long : (board : Board) (taken : List Taken) (ready : ℕ) (steps : List
 sent_long board taken ready [] [] sent = refl
 sent_long board taken ready [] (hop ∷ hops) sent = absurd sent
 sent_long board taken ready (step ∷ steps) [] sent = absurd sent
-sent_long board taken ready (step ∷ steps) (hop ∷ hops) sent = ap suc (sent_long board (taken ++ taken_by board hop ∷ []) (arrival board.links hop + 1) steps hops sent.2)
+sent_long board taken ready (step ∷ steps) (hop ∷ hops) sent = ap suc (sent_long board (taken ++ hop_takes board hop ∷ []) (arrival board.links hop + 1) steps hops sent.2)
 
 -- a walk goes over links
 pub walk_linked : (links : List Link) (from : ℕ) (further : List ℕ) (to : ℕ) → IsWalk links from further to → AreLinked links from further

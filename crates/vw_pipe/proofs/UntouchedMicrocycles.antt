@@ -11,7 +11,7 @@ use Rattle.vw_plan.specs.Lead.{after_last}
 use Rattle.vw_plan.specs.Nets.{driving_cell, node_of}
 use Rattle.vw_plan.proofs.GreatestReads.{greatest_read-agree}
 use Rattle.vw_pipe.specs.declared.task.Task.{Task}
-use Rattle.vw_pipe.specs.Steps.Leads.{hops_to, lead_so_far}
+use Rattle.vw_pipe.specs.Steps.Leads.{route_hops_to, lead_so_far}
 use Rattle.vw_pipe.specs.Steps.Underway.{is_passed, lead_at_place, ready_by}
 
 -- the number of the first route that brings a net to a node; that of the routes where there is none
@@ -20,13 +20,13 @@ route_place [] net node = 0
 route_place (route ∷ routes) net node = if eqb route.net net && eqb route.to node then 0 else suc (route_place routes net node)
 
 -- its hops are those that bring the net there
-pub hops_to-place : (routes : List Route) (hops : List (List Hop)) (node net : ℕ) → length hops ≡ length routes → hops_to routes hops node net ≡ slice_index_or hops (route_place routes net node) []
-hops_to-place [] [] node net long = refl
-hops_to-place [] (sent ∷ hops) node net long = absurd (omega (arith, long))
-hops_to-place (route ∷ routes) [] node net long = absurd (omega (arith, long))
-hops_to-place (route ∷ routes) (sent ∷ hops) node net long =
-    let rest = hops_to-place routes hops node net (omega (arith, long)) in
-    elim (eqb route.net net && eqb route.to node) as (λ here. (if here then sent else hops_to routes hops node net) ≡ slice_index_or (sent ∷ hops) (if here then 0 else suc (route_place routes net node)) []) [
+pub route_hops_to-place : (routes : List Route) (hops : List (List Hop)) (node net : ℕ) → length hops ≡ length routes → route_hops_to routes hops node net ≡ slice_index_or hops (route_place routes net node) []
+route_hops_to-place [] [] node net long = refl
+route_hops_to-place [] (sent ∷ hops) node net long = absurd (omega (arith, long))
+route_hops_to-place (route ∷ routes) [] node net long = absurd (omega (arith, long))
+route_hops_to-place (route ∷ routes) (sent ∷ hops) node net long =
+    let rest = route_hops_to-place routes hops node net (omega (arith, long)) in
+    elim (eqb route.net net && eqb route.to node) as (λ here. (if here then sent else route_hops_to routes hops node net) ≡ slice_index_or (sent ∷ hops) (if here then 0 else suc (route_place routes net node)) []) [
       | true ↦ refl
       | false ↦ rest
     ]
@@ -52,14 +52,14 @@ module _ (ordered : Ordered) (board : Board) (chip_of : List ℕ) (routes : List
     lead_kept node net settled =
         let own = node_of ordered.flat chip_of net in
         let if_home = λ (is : eqb own node ≡ true).
-        ap (λ (bit : Bool). if bit then slice_index later net else after_last board.links (hops_to routes more node net)) is
+        ap (λ (bit : Bool). if bit then slice_index later net else after_last board.links (route_hops_to routes more node net)) is
         ∙ kept.leads_same net (settled.0 (eqb-true own node is))
-        ∙ sym (ap (λ (bit : Bool). if bit then slice_index leads net else after_last board.links (hops_to routes hops node net)) is) in
+        ∙ sym (ap (λ (bit : Bool). if bit then slice_index leads net else after_last board.links (route_hops_to routes hops node net)) is) in
         let if_away = λ (is : eqb own node ≡ false).
         let apart : own ≡ node → ⊥ = λ same. true≢false (sym (eq-eqb own node same) ∙ is) in
-        ap (λ (bit : Bool). if bit then slice_index later net else after_last board.links (hops_to routes more node net)) is
-        ∙ ap (after_last board.links) (hops_to-place routes more node net kept.long_more ∙ kept.hops_same (route_place routes net node) (settled.1 apart) ∙ sym (hops_to-place routes hops node net kept.long))
-        ∙ sym (ap (λ (bit : Bool). if bit then slice_index leads net else after_last board.links (hops_to routes hops node net)) is) in
+        ap (λ (bit : Bool). if bit then slice_index later net else after_last board.links (route_hops_to routes more node net)) is
+        ∙ ap (after_last board.links) (route_hops_to-place routes more node net kept.long_more ∙ kept.hops_same (route_place routes net node) (settled.1 apart) ∙ sym (route_hops_to-place routes hops node net kept.long))
+        ∙ sym (ap (λ (bit : Bool). if bit then slice_index leads net else after_last board.links (route_hops_to routes hops node net)) is) in
         ⊎_elim if_home if_away (cases_Bool (eqb own node))
 
     -- the lead of a gate that reads what is settled

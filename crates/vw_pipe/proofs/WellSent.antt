@@ -17,8 +17,8 @@ use Rattle.vw_plan.specs.Lead.{arrival}
 use Rattle.vw_plan.specs.Links.{HaveSameEnds}
 use Rattle.vw_plan.specs.Sound.{has_pin, share_pin}
 use Rattle.vw_slots.specs.declared.slot.Taken.{Taken}
-use Rattle.vw_slots.specs.Slots.{is_taken}
-use Rattle.vw_pipe.specs.Steps.SentHops.{AreSent, link_place, hop_link, taken_by}
+use Rattle.vw_slots.specs.Slots.{is_pin_taken}
+use Rattle.vw_pipe.specs.Steps.SentHops.{AreSent, link_place, hop_link, hop_takes}
 use Rattle.vw_pipe.specs.Steps.FinishedSchedules.{all_hops, uses}
 use Rattle.vw_pipe.specs.Steps.Leads.{wires_of}
 
@@ -73,8 +73,8 @@ all_wires P (route ∷ routes) (sent ∷ hops) long each = All-cons P (record { 
 
 -- ---- earliest hops
 
-module _ (board : Board) (plan : Plan) (final : List Taken) (in_use : (hop : Hop) → is_taken final (hop_link board hop) hop.pin hop.at ≡ true → is_in_use plan hop ≡ true) where
-  pub early_from : (taken : List Taken) (ready : ℕ) (steps : List (ℕ × ℕ)) (hops : List Hop) → AreSent board taken ready steps hops → ((link pin at : ℕ) → is_taken (taken ++ map (taken_by board) hops) link pin at ≡ true → is_taken final link pin at ≡ true) → AreEarliest board plan ready hops
+module _ (board : Board) (plan : Plan) (final : List Taken) (in_use : (hop : Hop) → is_pin_taken final (hop_link board hop) hop.pin hop.at ≡ true → is_in_use plan hop ≡ true) where
+  pub early_from : (taken : List Taken) (ready : ℕ) (steps : List (ℕ × ℕ)) (hops : List Hop) → AreSent board taken ready steps hops → ((link pin at : ℕ) → is_pin_taken (taken ++ map (hop_takes board) hops) link pin at ≡ true → is_pin_taken final link pin at ≡ true) → AreEarliest board plan ready hops
   early_from taken ready [] [] sent stays = tt
   early_from taken ready [] (hop ∷ hops) sent stays = absurd sent
   early_from taken ready (step ∷ steps) [] sent stays = absurd sent
@@ -82,7 +82,7 @@ module _ (board : Board) (plan : Plan) (final : List Taken) (in_use : (hop : Hop
       let first : IsEarliest board plan ready hop = λ at late before pin there.
       let other : Hop = record { from = hop.from; to = hop.to; pin = pin; at = at } in
       let inside : pin < slice_index (map (λ link. link.width) board.links) (link_place board.links hop.from hop.to) = pin_within board.links other board.linked.separate.once there in
-      let full : is_taken taken (hop_link board hop) pin at ≡ true = sent.1.full_before at late before pin inside in
-      let stayed : is_taken final (hop_link board hop) pin at ≡ true = stays (hop_link board hop) pin at (list_any-append (λ slot. (eqb slot.link (hop_link board hop) && eqb slot.at at) && eqb slot.pin pin) taken (map (taken_by board) (hop ∷ hops)) ∙ or_left _ _ full) in
+      let full : is_pin_taken taken (hop_link board hop) pin at ≡ true = sent.1.full_before at late before pin inside in
+      let stayed : is_pin_taken final (hop_link board hop) pin at ≡ true = stays (hop_link board hop) pin at (list_any-append (λ slot. (eqb slot.link (hop_link board hop) && eqb slot.at at) && eqb slot.pin pin) taken (map (hop_takes board) (hop ∷ hops)) ∙ or_left _ _ full) in
       in_use other stayed in
-      (first, early_from (taken ++ taken_by board hop ∷ []) (arrival board.links hop + 1) steps hops sent.2 (λ link pin at is. stays link pin at (ap (λ (list : List Taken). is_taken list link pin at) (sym (append_assoc taken (taken_by board hop ∷ []) (map (taken_by board) hops))) ∙ is)))
+      (first, early_from (taken ++ hop_takes board hop ∷ []) (arrival board.links hop + 1) steps hops sent.2 (λ link pin at is. stays link pin at (ap (λ (list : List Taken). is_pin_taken list link pin at) (sym (append_assoc taken (hop_takes board hop ∷ []) (map (hop_takes board) hops))) ∙ is)))

@@ -4,7 +4,7 @@ ghost use Rattle.std.specs.List.{All};
 ghost use Rattle.vw_plan.specs.Lead.{arrival};
 ghost use Rattle.vw_plan.specs.Routes.{steps_of};
 ghost use Rattle.vw_plan.specs.Walks.{has_link};
-ghost use Rattle.vw_pipe.specs.Steps.SentHops.{AreLinked, AreSent, link_place, taken_by};
+ghost use Rattle.vw_pipe.specs.Steps.SentHops.{AreLinked, AreSent, link_place, hop_takes};
 
 use crate::given::Given;
 use std::alloc::{AllocError, Global};
@@ -40,7 +40,7 @@ pub fn send_along(
         ≤ ready + length further.now * (2 ^ 30 + 16)) hops.items) }
     ensures ok { IfOk result (λ hops. AreSent given.now.board.now table.old.taken ready (steps_of
         (first ∷ further.now)) hops.items
-        × (table.new.taken ≡ table.old.taken ++ map (taken_by given.now.board.now) hops.items)
+        × (table.new.taken ≡ table.old.taken ++ map (hop_takes given.now.board.now) hops.items)
         × (table.new.widths ≡ table.old.widths)) }
 {
     table.reserve(further.len() as u64)?;

@@ -9,7 +9,7 @@ use Rattle.std.proofs.lemmas.List.Sorted.{IsPermutation-refl, IsPermutation-swap
 use Rattle.vw_plan.specs.declared.board.Board.{Board}
 use Rattle.vw_plan.specs.Good.{exchanged}
 use Rattle.vw_place.specs.Numbering.{IsNumbering}
-use Rattle.vw_place.specs.Steps.NodeLists.{IsNodeList, moved}
+use Rattle.vw_place.specs.Steps.NodeLists.{IsNodeList, renumbered_node}
 use Rattle.vw_place.specs.Steps.Tries.{AreTried, IsBefore, IsBoth, IsOneAndLater}
 use Rattle.vw_place.proofs.Renumbered.{chip_stays, one_to_one}
 
@@ -83,10 +83,10 @@ module _ (board : Board) (at : List ℕ) (nodes : IsNodeList board at) (one othe
   after = swap at one other
 
   abbrev first : ℕ
-  first = moved at one
+  first = renumbered_node at one
 
   abbrev second : ℕ
-  second = moved at other
+  second = renumbered_node at other
 
   one_in : one < length at
   one_in = omega (arith, nodes.long)
@@ -95,19 +95,19 @@ module _ (board : Board) (at : List ℕ) (nodes : IsNodeList board at) (one othe
   other_in = omega (arith, nodes.long)
 
   -- exchanging two places exchanges the numbers that stand there
-  pub moved_exchanged : (node : ℕ) → moved after node ≡ exchanged first second (moved at node)
+  pub moved_exchanged : (node : ℕ) → renumbered_node after node ≡ exchanged first second (renumbered_node at node)
   moved_exchanged =
-      let apart = λ (x y : ℕ) (differ : x ≡ y → ⊥) (same : moved at x ≡ moved at y). differ (one_to_one board.chips (moved at) nodes.from nodes.numbering x y same) in
-      by_place (λ node. moved after node ≡ exchanged first second (moved at node)) one other
+      let apart = λ (x y : ℕ) (differ : x ≡ y → ⊥) (same : renumbered_node at x ≡ renumbered_node at y). differ (one_to_one board.chips (renumbered_node at) nodes.from nodes.numbering x y same) in
+      by_place (λ node. renumbered_node after node ≡ exchanged first second (renumbered_node at node)) one other
       ((swaps at one other one_in other_in one).0 ∙ get_or_default at other one other other_in ∙ sym (exchanged_first first second))
       ((swaps at one other one_in other_in other).1 ∙ get_or_default at one other one one_in ∙ sym (exchanged_second first second))
-      (λ node not_one not_other. (swaps at one other one_in other_in node).2 node not_one not_other ∙ sym (exchanged_other first second (moved at node) (apart node one not_one) (apart node other not_other)))
+      (λ node not_one not_other. (swaps at one other one_in other_in node).2 node not_one not_other ∙ sym (exchanged_other first second (renumbered_node at node) (apart node one not_one) (apart node other not_other)))
 
   first_chip : (1 ≤ first) × (first ≤ board.chips)
-  first_chip = chip_stays board.chips (moved at) nodes.from nodes.numbering one one_chip
+  first_chip = chip_stays board.chips (renumbered_node at) nodes.from nodes.numbering one one_chip
 
   second_chip : (1 ≤ second) × (second ≤ board.chips)
-  second_chip = chip_stays board.chips (moved at) nodes.from nodes.numbering other other_chip
+  second_chip = chip_stays board.chips (renumbered_node at) nodes.from nodes.numbering other other_chip
 
   -- so they are a list of nodes again
   pub nodes_exchanged : IsNodeList board after
@@ -117,12 +117,12 @@ module _ (board : Board) (at : List ℕ) (nodes : IsNodeList board at) (one othe
     from = λ node. nodes.from (exchanged first second node);
     numbering = is_numbering;
   } where
-    is_numbering : IsNumbering board.chips (moved after) (λ node. nodes.from (exchanged first second node))
+    is_numbering : IsNumbering board.chips (renumbered_node after) (λ node. nodes.from (exchanged first second node))
     is_numbering = record {
       host = moved_exchanged 0 ∙ ap (exchanged first second) nodes.numbering.host ∙ exchanged_other first second 0 (λ is. omega (arith, first_chip.0)) (λ is. omega (arith, second_chip.0));
-      there = λ node. ap (λ (new : ℕ). nodes.from (exchanged first second new)) (moved_exchanged node) ∙ ap nodes.from (exchanged_twice first second (moved at node)) ∙ nodes.numbering.there node;
+      there = λ node. ap (λ (new : ℕ). nodes.from (exchanged first second new)) (moved_exchanged node) ∙ ap nodes.from (exchanged_twice first second (renumbered_node at node)) ∙ nodes.numbering.there node;
       back = λ node. moved_exchanged (nodes.from (exchanged first second node)) ∙ ap (exchanged first second) (nodes.numbering.back (exchanged first second node)) ∙ exchanged_twice first second node;
-      nodes = λ node within. subst (λ (new : ℕ). new ≤ board.chips) (sym (moved_exchanged node)) (exchanged_low board.chips first second first_chip.1 second_chip.1 (moved at node) (nodes.numbering.nodes node within));
+      nodes = λ node within. subst (λ (new : ℕ). new ≤ board.chips) (sym (moved_exchanged node)) (exchanged_low board.chips first second first_chip.1 second_chip.1 (renumbered_node at node) (nodes.numbering.nodes node within));
       old_nodes = λ node within. nodes.numbering.old_nodes (exchanged first second node) (exchanged_low board.chips first second first_chip.1 second_chip.1 node within);
     }
 
@@ -170,9 +170,9 @@ before_cases one end first second is =
 
 -- ---- each node with its own number
 
-own_moved : (many node : ℕ) → moved (range_with_len 0 many) node ≡ node
+own_moved : (many node : ℕ) → renumbered_node (range_with_len 0 many) node ≡ node
 own_moved many node =
-    let if_there = λ (there : node < many). let same : moved (range_with_len 0 many) node ≡ node = omega (arith, get_or-range_with_len 0 many node node there) in same in
+    let if_there = λ (there : node < many). let same : renumbered_node (range_with_len 0 many) node ≡ node = omega (arith, get_or-range_with_len 0 many node node there) in same in
     let if_past = λ (past : many ≤ node). get_or_past (range_with_len 0 many) node node (omega (arith, length-range_with_len 0 many)) in
     ⊎_elim if_there if_past (cases_lt node many)
 
@@ -183,10 +183,10 @@ own_nodes board = record {
   from = λ node. node;
   numbering = is_numbering;
 } where
-  own : (node : ℕ) → moved (range_with_len 0 (board.chips + 1)) node ≡ node
+  own : (node : ℕ) → renumbered_node (range_with_len 0 (board.chips + 1)) node ≡ node
   own node = own_moved (board.chips + 1) node
 
-  is_numbering : IsNumbering board.chips (moved (range_with_len 0 (board.chips + 1))) (λ node. node)
+  is_numbering : IsNumbering board.chips (renumbered_node (range_with_len 0 (board.chips + 1))) (λ node. node)
   is_numbering = record {
     host = own 0;
     there = own;

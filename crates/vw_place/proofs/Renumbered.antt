@@ -22,7 +22,7 @@ use Rattle.vw_plan.specs.Needs.{needed_nodes, needed_pairs}
 use Rattle.vw_plan.specs.Nets.{is_needed, is_read_at, node_of}
 use Rattle.vw_plan.proofs.NeededPairs.{past_node}
 use Rattle.vw_place.specs.Numbering.{IsNumbering}
-use Rattle.vw_place.specs.Steps.NodeLists.{IsNodeList, moved}
+use Rattle.vw_place.specs.Steps.NodeLists.{IsNodeList, renumbered_node}
 use Rattle.vw_net.proofs.SumsOverLists.{length_sum, range_longer, sum_agree, sum_filter, sum_flat_map, sum_map}
 
 -- ---- a numbering, node by node
@@ -106,15 +106,15 @@ needed_sum flat chip_of chips weight low =
     sum_flat_map (λ (need : Need). weight need.net need.to) pairs nets ∙ sum_agree (λ net. sum_by (λ (need : Need). weight need.net need.to) (pairs net)) (λ net. sum_by (term net) (range_with_len 0 (chips + 1))) nets net_sum
 
 -- a sum over all nodes in another order
-reordered : (board : Board) (at : List ℕ) → IsNodeList board at → (f : ℕ → ℕ) → sum_by f (range_with_len 0 (board.chips + 1)) ≡ sum_by (λ node. f (moved at node)) (range_with_len 0 (board.chips + 1))
+reordered : (board : Board) (at : List ℕ) → IsNodeList board at → (f : ℕ → ℕ) → sum_by f (range_with_len 0 (board.chips + 1)) ≡ sum_by (λ node. f (renumbered_node at node)) (range_with_len 0 (board.chips + 1))
 reordered board at nodes f =
     let many = board.chips + 1 in
-    let is : at ≡ map (moved at) (range_with_len 0 many) = fill_by_all (moved at) at many 0 nodes.long (λ node below. get_or_default at node 0 node (omega (arith, nodes.long))) in
-    sym (sum_by-IsPermutation f (range_with_len 0 many) at nodes.moves) ∙ ap (λ (list : List ℕ). sum_by f list) is ∙ sum_map f (moved at) (range_with_len 0 many)
+    let is : at ≡ map (renumbered_node at) (range_with_len 0 many) = fill_by_all (renumbered_node at) at many 0 nodes.long (λ node below. get_or_default at node 0 node (omega (arith, nodes.long))) in
+    sym (sum_by-IsPermutation f (range_with_len 0 many) at nodes.moves) ∙ ap (λ (list : List ℕ). sum_by f list) is ∙ sum_map f (renumbered_node at) (range_with_len 0 many)
 
 module _ (flat : Flat) (board : Board) (at : List ℕ) (nodes : IsNodeList board at) where
   abbrev to : ℕ → ℕ
-  to = moved at
+  to = renumbered_node at
 
   -- a sum over the needed pairs of the placement numbered anew is one over those of the old
   moved_sum : (chip_of : List ℕ) (weight : ℕ → ℕ → ℕ) → All (λ chip. chip ≤ board.chips) chip_of
@@ -153,7 +153,7 @@ module _ (flat : Flat) (board : Board) (at : List ℕ) (nodes : IsNodeList board
       omega (arith, count_moved chip_of low, count, no_less)
 
 -- what stands at the place of a node
-pub stands : (board : Board) (at : List ℕ) → IsNodeList board at → (node : ℕ) → node ≤ board.chips → get_or at node 0 ≡ moved at node
+pub stands : (board : Board) (at : List ℕ) → IsNodeList board at → (node : ℕ) → node ≤ board.chips → get_or at node 0 ≡ renumbered_node at node
 stands board at nodes node within = get_or_default at node 0 node (omega (arith, nodes.long))
 
 pub stands_low : (board : Board) (at : List ℕ) → IsNodeList board at → (node : ℕ) → node ≤ board.chips → get_or at node 0 ≤ board.chips

@@ -4,7 +4,7 @@ ghost use Rattle.std.specs.List.{All};
 ghost use Rattle.vw_plan.specs.Chips.{IsChip, cells_on};
 ghost use Rattle.vw_plan.specs.Good.{NoExchangeHelps, NoMoveHelps};
 ghost use Rattle.vw_place.specs.Numbering.{IsRenumbered};
-ghost use Rattle.vw_place.specs.Steps.NodeLists.{IsNodeList, moved};
+ghost use Rattle.vw_place.specs.Steps.NodeLists.{IsNodeList, renumbered_node};
 ghost use Rattle.vw_place.specs.Steps.Traffic.{IsPairTable, travel_by};
 ghost use Rattle.vw_place.specs.Steps.Tries.{NoneIsUseful};
 
@@ -55,7 +55,7 @@ fn best_numbers(
 /// The placement with each chip's number by a list of nodes.
 fn numbered_anew(alloc: Global, at: &[u32], chip_of: &[u32]) -> Result<Sequence<u32>, AllocError>
     requires { All (λ chip. chip + 1 ≤ length at.now) chip_of.now }
-    ensures { IfOk result (λ new. new ≡ map (moved at.now) chip_of.now) }
+    ensures { IfOk result (λ new. new ≡ map (renumbered_node at.now) chip_of.now) }
 {
     let mut new = Vec::with_capacity(alloc, chip_of.len())?;
     for chip in chip_of {

@@ -9,7 +9,7 @@ use Rattle.vw_plan.specs.declared.wire.Wire.{Wire}
 use Rattle.vw_plan.specs.Lead.{after_last, arrival}
 use Rattle.vw_plan.specs.PlannedBoard.{PlannedBoard, home}
 use Rattle.vw_plan.specs.Sound.{IsRising, IsRouted, IsSentWhenUsable, IsSound, leads_to, rises}
-use Rattle.vw_plan.specs.Wiring.{BeginsWire, EndsWire, GoesOn}
+use Rattle.vw_plan.specs.Wiring.{BeginsWire, EndsWire, FollowsHop}
 
 -- what holds of all holds of the one at a place
 pub at_place : {X : Type 0} (P : X → Type 0) (xs : List X) (place : ℕ) (x : X) → All P xs → slice_get xs place ≡ Some x → P x
@@ -63,7 +63,7 @@ module _ (planned : PlannedBoard) (sound : IsSound planned) (number : ℕ) (wire
     ready = at_place (IsSentWhenUsable planned) planned.plan.wires number wire sound.sent_when_usable there hop is;
   }
 
-  pub goes_on : (place : ℕ) (hop next : Hop) → slice_get wire.hops place ≡ Some hop → slice_get wire.hops (place + 1) ≡ Some next → GoesOn planned hop next
+  pub goes_on : (place : ℕ) (hop next : Hop) → slice_get wire.hops place ≡ Some hop → slice_get wire.hops (place + 1) ≡ Some next → FollowsHop planned hop next
   goes_on place hop next is after =
       let later : place + 1 ≡ suc place = omega arith in
       let then = ap (slice_get wire.hops) (sym later) ∙ after in

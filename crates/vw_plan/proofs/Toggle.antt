@@ -21,7 +21,7 @@ use Rattle.vw_plan.specs.declared.board.Board.{Board}
 use Rattle.vw_plan.specs.declared.wire.Hop.{Hop}
 use Rattle.vw_plan.specs.declared.wire.Wire.{Wire}
 use Rattle.vw_plan.specs.declared.plan.Plan.{Plan}
-use Rattle.vw_plan.specs.Walks.{IsJoined}
+use Rattle.vw_plan.specs.Walks.{IsReachable}
 use Rattle.vw_plan.specs.Links.{HaveSameEnds}
 use Rattle.vw_plan.specs.PlannedBoard.{PlannedBoard, home}
 use Rattle.vw_plan.specs.Needs.{depth, needed_pairs}
@@ -105,7 +105,7 @@ pub is_timely : (link : Link) → (nat_le 1 link.delay && nat_le link.delay 16) 
 is_timely link is = let parts = and_parts (nat_le 1 link.delay) (nat_le link.delay 16) is in (leb-true 1 link.delay parts.0, leb-true link.delay 16 parts.1)
 
 -- one link is enough, or none from a node to itself
-pub walk_between : (from to : ℕ) → from ≤ 2 → to ≤ 2 → IsJoined links from to
+pub walk_between : (from to : ℕ) → from ≤ 2 → to ≤ 2 → IsReachable links from to
 walk_between zero zero from_node to_node = ∣ ([], refl) ∣₁
 walk_between zero (suc zero) from_node to_node = ∣ (1 ∷ [], (refl, refl)) ∣₁
 walk_between zero (suc (suc zero)) from_node to_node = ∣ (2 ∷ [], (refl, refl)) ∣₁

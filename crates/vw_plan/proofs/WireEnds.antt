@@ -6,7 +6,7 @@ use Rattle.vw_plan.specs.declared.wire.Hop.{Hop}
 use Rattle.vw_plan.specs.declared.wire.Wire.{Wire}
 use Rattle.vw_plan.specs.PlannedBoard.{PlannedBoard}
 use Rattle.vw_plan.specs.Sound.{IsSound}
-use Rattle.vw_plan.specs.Wiring.{BeginsWire, EndsWire, GoesOn}
+use Rattle.vw_plan.specs.Wiring.{BeginsWire, EndsWire, FollowsHop}
 use Rattle.vw_plan.proofs.HopsOfWires.{begins, ends, goes_on, routed}
 
 -- the first hop
@@ -27,7 +27,7 @@ pub record LastHop (planned : PlannedBoard) (wire : Wire) : Type 0 where
 pub record HopBefore (planned : PlannedBoard) (wire : Wire) (place : ℕ) (next : Hop) : Type 0 where
   pub hop : Hop
   pub at : slice_get wire.hops place ≡ Some hop
-  pub goes_on : GoesOn planned hop next
+  pub goes_on : FollowsHop planned hop next
 
 module _ (planned : PlannedBoard) (sound : IsSound planned) (number : ℕ) (wire : Wire) (there : slice_get planned.plan.wires number ≡ Some wire) where
   -- there is a first one

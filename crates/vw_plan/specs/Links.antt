@@ -2,7 +2,7 @@
 use Rattle.std.specs.Prelude.{◌≡◌, ◌≢◌, ◌≤◌, ℕ, List}
 use Rattle.std.specs.List.{All, AllPairs}
 use Rattle.vw_plan.specs.declared.link.Link.{Link}
-use Rattle.vw_plan.specs.Walks.{IsJoined}
+use Rattle.vw_plan.specs.Walks.{IsReachable}
 
 -- both lead from one node to one other
 abbrev pub HaveSameEnds : Link → Link → Type 0
@@ -24,4 +24,4 @@ pub record AreSeparate (chips : ℕ) (links : List Link) : Type 0 where
 -- and each node has a walk to each other
 pub record AreLinks (chips : ℕ) (links : List Link) : Type 0 where
   pub separate : AreSeparate chips links
-  pub joined : (from to : ℕ) → from ≤ chips → to ≤ chips → IsJoined links from to
+  pub joined : (from to : ℕ) → from ≤ chips → to ≤ chips → IsReachable links from to

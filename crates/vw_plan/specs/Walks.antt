@@ -14,5 +14,5 @@ IsWalk links from [] to = from ≡ to
 IsWalk links from (node ∷ nodes) to = IsTrue (has_link links from node) × IsWalk links node nodes to
 
 -- some walk leads from one node to another
-abbrev pub IsJoined : List Link → ℕ → ℕ → Type 0
-IsJoined links from to = ∥ ((nodes : List ℕ) × IsWalk links from nodes to) ∥₁
+abbrev pub IsReachable : List Link → ℕ → ℕ → Type 0
+IsReachable links from to = ∥ ((nodes : List ℕ) × IsWalk links from nodes to) ∥₁

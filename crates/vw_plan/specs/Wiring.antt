@@ -11,7 +11,7 @@ pub record BeginsWire (planned : PlannedBoard) (wire : Wire) (hop : Hop) : Type 
   pub ready : usable planned (home planned wire.net) wire.net ≤ hop.at
 
 -- a hop leaves where the hop before it has arrived
-pub record GoesOn (planned : PlannedBoard) (hop next : Hop) : Type 0 where
+pub record FollowsHop (planned : PlannedBoard) (hop next : Hop) : Type 0 where
   pub from : next.from ≡ hop.to
   pub later : arrival planned.board.links hop < next.at
 

@@ -18,7 +18,7 @@ ghost use Rattle.vw_plan.specs.Needs.{comes_before, crossing, depth, is_pair, ne
 ghost use Rattle.vw_plan.specs.ChainsBack.{IsDeepest};
 ghost use Rattle.vw_plan.specs.Distance.{IsDistance, distance};
 ghost use Rattle.vw_plan.specs.Sound.{IsSound, hops_of, share_pin};
-ghost use Rattle.vw_plan.specs.Wiring.{BeginsWire, EndsWire, GoesOn};
+ghost use Rattle.vw_plan.specs.Wiring.{BeginsWire, EndsWire, FollowsHop};
 
 /// The lead of a net at its own node is that of what drives it: 0 for an input or a latch, and for a gate the greatest
 /// lead of the nets that it reads. At another node it is one past the arrival by the first wire that brings it.
@@ -80,7 +80,7 @@ pub fn hops_go_on()
     ensures next { (planned : PlannedBoard) (number place : ℕ) (wire : Wire) (hop next : Hop)
         → IsSound planned → slice_get planned.plan.wires number ≡ Some wire
         → slice_get wire.hops place ≡ Some hop → slice_get wire.hops (place + 1) ≡ Some next
-        → GoesOn planned hop next }
+        → FollowsHop planned hop next }
     ensures last { (planned : PlannedBoard) (number place : ℕ) (wire : Wire) (hop : Hop)
         → IsSound planned → slice_get planned.plan.wires number ≡ Some wire
         → slice_get wire.hops place ≡ Some hop → place + 1 ≡ length wire.hops

@@ -3,7 +3,7 @@ use Rattle.std.proofs.Common.{◌≡◌, ◌==◌, ◌||◌, ◌<◌, ◌≤◌,
 use Rattle.std.specs.List.{list_any}
 use Rattle.std.proofs.lemmas.List.Folds.{list_any-append}
 use Rattle.std.specs.Prelude.{codes, MatchOption, unwrap_or, IfOk}
-use Rattle.vw_plantext.specs.ChipsText.{AreInRange, BeginsWith}
+use Rattle.vw_plantext.specs.ChipsText.{AreInRange, BeginsWithChips}
 use Rattle.vw_plantext.specs.Grammar.{chips_line}
 use Rattle.vw_plantext.specs.Steps.ChipsLines.{IsLineOf, IsNoLine}
 use Rattle.vw_plantext.specs.Steps.Cuts.{IsOneLine, IsLineCut}
@@ -55,7 +55,7 @@ pub line_alone : (chips : List ℕ) → AreInRange chips → IsOneLine (chips_li
 line_alone chips are = one_line (codes "chips") chips refl (small_chips chips are.fit)
 
 -- a text whose first line isn't one of chips
-pub no_line : (text line rest : List ℕ) → IsLineCut text line rest → IsNoLine line → (chips behind : List ℕ) → ¬ (BeginsWith text chips behind)
+pub no_line : (text line rest : List ℕ) → IsLineCut text line rest → IsNoLine line → (chips behind : List ℕ) → ¬ (BeginsWithChips text chips behind)
 no_line text line rest cut none chips behind (are, begins) =
     let same = cut_once line (chips_line chips) rest behind cut.one_line (line_alone chips are) (sym cut.whole ∙ begins) in
     none chips are same.line
@@ -65,11 +65,11 @@ with_end : (before : Bool) → (before || true) ≡ false → ⊥
 with_end true none = true≢false none
 with_end false none = true≢false none
 
-pub no_end : (text : List ℕ) → IsOneLine text → (chips behind : List ℕ) → ¬ (BeginsWith text chips behind)
+pub no_end : (text : List ℕ) → IsOneLine text → (chips behind : List ℕ) → ¬ (BeginsWithChips text chips behind)
 no_end text alone chips behind (are, begins) =
     let is_end = λ (b : ℕ). b == 10 in
     with_end (list_any is_end (chips_line chips)) (sym (list_any-append is_end (chips_line chips) (10 ∷ behind)) ∙ ap (list_any is_end) (sym begins) ∙ alone)
 
 -- a text whose first line is one of chips
-pub begins_with : (text line rest chips : List ℕ) → IsLineCut text line rest → IsLineOf line chips → BeginsWith text chips rest
+pub begins_with : (text line rest chips : List ℕ) → IsLineCut text line rest → IsLineOf line chips → BeginsWithChips text chips rest
 begins_with text line rest chips cut is = (is.0, cut.whole ∙ ap (λ (front : List ℕ). front ++ 10 ∷ rest) is.1)

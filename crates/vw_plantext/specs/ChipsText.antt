@@ -13,19 +13,19 @@ pub record AreInRange (chips : List ℕ) : Type 0 where
   pub fit : All (λ chip. chip < 2 ^ 32) chips
 
 -- a text begins with the line of these chips, and this stands behind it
-abbrev pub BeginsWith : List ℕ → List ℕ → List ℕ → Type 0
-BeginsWith text chips rest = AreInRange chips × (text ≡ chips_line chips ++ 10 ∷ rest)
+abbrev pub BeginsWithChips : List ℕ → List ℕ → List ℕ → Type 0
+BeginsWithChips text chips rest = AreInRange chips × (text ≡ chips_line chips ++ 10 ∷ rest)
 
 -- a text within the limit is the line of these chips, and nothing stands behind it
 pub record SpellsChips (text chips : List ℕ) : Type 0 where
   pub small : length text ≤ MOST_PLAN_BYTES
-  pub is : BeginsWith text chips []
+  pub is : BeginsWithChips text chips []
 
 -- it doesn't begin with a line of chips, or something stands behind this
 abbrev pub IsBadAt : List ℕ → ℕ → Type 0
 IsBadAt text line =
-    ((line ≡ 1) × ((chips rest : List ℕ) → ¬ (BeginsWith text chips rest)))
-    ⊎ ((line ≡ 2) × (chips : List ℕ) × (rest : List ℕ) × BeginsWith text chips rest × (rest ≢ []))
+    ((line ≡ 1) × ((chips rest : List ℕ) → ¬ (BeginsWithChips text chips rest)))
+    ⊎ ((line ≡ 2) × (chips : List ℕ) × (rest : List ℕ) × BeginsWithChips text chips rest × (rest ≢ []))
 
 -- a text is refused for this reason; want of memory says nothing of it
 abbrev pub RefusesChips : List ℕ → PlanTextFault → Type 0

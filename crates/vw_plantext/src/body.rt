@@ -1,7 +1,7 @@
 //! The lines of a plan text behind the first two.
 ghost use Rattle.std.specs.Prelude.{◌≡◌, ◌<◌, ◌≤◌, ◌^◌, false, Some, option_map, IfOk, MatchOption};
 ghost use Rattle.vw_plantext.specs.Steps.Hops.{IsHop, IsNoHop, IsHopLine, IsNoHopLine, IsWireHead, IsNoWireHead, IsWireHeadLine, IsNoWireHeadLine};
-ghost use Rattle.vw_plantext.specs.Steps.Bodies.{part_of, part_with_hop, state_of, is_complete, HasSomeLeft, IsBodyInRange, TakesPlanLine, RefusesLine, ClosesWire};
+ghost use Rattle.vw_plantext.specs.Steps.Bodies.{part_of, part_with_hop, body_state, is_complete, HasSomeLeft, IsBodyInRange, TakesPlanLine, RefusesLine, ClosesWire};
 
 use crate::line::read_numbers;
 use std::alloc::{AllocError, Global};
@@ -117,15 +117,15 @@ fn with_hop(wire: OpenWire, hop: Hop) -> Result<OpenWire, AllocError>
 impl Body {
     /// Whether all wires are there, with their hops.
     pub fn is_complete(&self) -> bool
-        ensures { result ≡ is_complete (state_of self.now) }
+        ensures { result ≡ is_complete (body_state self.now) }
     {
         self.wire.is_none() && self.left == 0
     }
 
     /// The same, where a wire that has all its hops is put to the others.
     pub fn closed(self) -> Result<Self, AllocError>
-        requires { IsBodyInRange (state_of self) }
-        ensures { IfOk result (λ body. ClosesWire (state_of self) (state_of body)) }
+        requires { IsBodyInRange (body_state self) }
+        ensures { IfOk result (λ body. ClosesWire (body_state self) (body_state body)) }
     {
         let Body {
             chip_of,
@@ -171,11 +171,11 @@ impl Body {
         line: &[u8],
         numbers: &mut Vec<u64>,
     ) -> Result<Option<Self>, AllocError>
-        requires fits { IsBodyInRange (state_of self) }
+        requires fits { IsBodyInRange (body_state self) }
         requires some_left { HasSomeLeft (option_map part_of self.wire) }
-        requires incomplete { is_complete (state_of self) ≡ false }
-        ensures { IfOk result (λ taken. MatchOption taken (RefusesLine (state_of self) line.now)
-            (λ body. TakesPlanLine (state_of self) line.now (state_of body))) }
+        requires incomplete { is_complete (body_state self) ≡ false }
+        ensures { IfOk result (λ taken. MatchOption taken (RefusesLine (body_state self) line.now)
+            (λ body. TakesPlanLine (body_state self) line.now (body_state body))) }
     {
         let Body {
             chip_of,

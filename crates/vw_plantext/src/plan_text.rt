@@ -2,7 +2,7 @@
 ghost use Rattle.std.specs.Prelude.{◌≡◌, ◌≤◌, ◌<◌, ◌^◌, true, length, IfOk, IfErr};
 ghost use Rattle.vw_plantext.specs.Content.{content_of};
 ghost use Rattle.vw_plantext.specs.PlanText.{Spells, Refuses};
-ghost use Rattle.vw_plantext.specs.Steps.Bodies.{state_of, is_complete, IsBodyInRange};
+ghost use Rattle.vw_plantext.specs.Steps.Bodies.{body_state, is_complete, IsBodyInRange};
 ghost use Rattle.vw_plantext.specs.Steps.Starts.{IsFaultOfText};
 ghost use Rattle.vw_plantext.specs.Steps.Finished.{content_read, EndsPlan, EndsBadly, IsSpelled};
 
@@ -17,9 +17,9 @@ use vw_plan::Plan;
 
 /// The plan whose wires were all read.
 fn finish(body: Body) -> Plan
-    requires fits { IsBodyInRange (state_of body) }
-    requires complete { is_complete (state_of body) ≡ true }
-    ensures { content_of result ≡ content_read (state_of body) }
+    requires fits { IsBodyInRange (body_state body) }
+    requires complete { is_complete (body_state body) ≡ true }
+    ensures { content_of result ≡ content_read (body_state body) }
 {
     let Body {
         chip_of,
@@ -34,10 +34,10 @@ fn finish(body: Body) -> Plan
 
 /// The plan whose wires were all read, where this line, of this number, is the last one.
 fn end_of(body: Body, line: &[u8], after: &[u8], number: u64) -> Result<Plan, PlanTextFault>
-    requires fits { IsBodyInRange (state_of body) }
-    requires complete { is_complete (state_of body) ≡ true }
+    requires fits { IsBodyInRange (body_state body) }
+    requires complete { is_complete (body_state body) ≡ true }
     requires small { number < 2 ^ 63 }
-    ensures ends { IfOk result (EndsPlan (state_of body) line.now after.now) }
+    ensures ends { IfOk result (EndsPlan (body_state body) line.now after.now) }
     ensures fault { IfErr result (EndsBadly line.now after.now number) }
 {
     if line != b"end".as_slice() {

@@ -1,6 +1,6 @@
 //! The first two lines of a plan text.
 ghost use Rattle.std.specs.Prelude.{◌≡◌, MatchOption, IfOk, IfErr, IfSome, IfNone};
-ghost use Rattle.vw_plantext.specs.Steps.Bodies.{state_of};
+ghost use Rattle.vw_plantext.specs.Steps.Bodies.{body_state};
 ghost use Rattle.vw_plantext.specs.Steps.Starts.{IsPlanHead, IsNoHead, IsHeadLine, IsNoHeadLine, AreChips, AreNoChips, IsChipsLine, IsNoChipsLine, IsReadTo, IsFaultOfText};
 
 use crate::body::Body;
@@ -85,7 +85,7 @@ pub fn begin<'a>(
     numbers: &mut Vec<u64>,
 ) -> Result<(Body, &'a [u8]), PlanTextFault>
     ensures begun { IfOk result (λ parts.
-        IsReadTo bytes.now (state_of parts.0) parts.1.now 3) }
+        IsReadTo bytes.now (body_state parts.0) parts.1.now 3) }
     ensures fault { IfErr result (IsFaultOfText bytes.now) }
 {
     let Some((line, rest)) = next_line(bytes) else {

@@ -30,9 +30,9 @@ use Rattle.vw_prog.specs.declared.owners.OwnLatch.{OwnLatch}
 use Rattle.vw_prog.specs.declared.shift.LoopNet.{LoopNet}
 use Rattle.vw_prog.specs.declared.shift.ShiftLoop.{ShiftLoop}
 use Rattle.vw_prog.specs.Actions.{action_of, actions}
-use Rattle.vw_prog.specs.Codes.{BeginsWith, HasSlot, IsCode, IsTableGate, IsWideGate, slot_of, taken_net}
-use Rattle.vw_prog.specs.Coding.{IsMadeOf, RiseByMicrocycles, action_gates, action_op, action_wide, all_gates, all_ops, gate_nets, cell_gates, cell_op, cell_wide, joined_ops, known_nets, named_all, no_slot, own_latch, read_at, slot_in, table_gate, take_nets, wide_gate}
-use Rattle.vw_prog.specs.Due.{gives, is_due, is_source, own_latches, reads, recorded}
+use Rattle.vw_prog.specs.Codes.{BeginsWithAction, HasSlot, IsCode, IsTableGate, IsWideGate, net_slot, taken_net}
+use Rattle.vw_prog.specs.Coding.{IsCodeOf, RiseByMicrocycles, action_gates, action_op, action_wide, all_gates, all_ops, gate_nets, cell_gates, cell_op, cell_wide, joined_ops, known_nets, named_all, no_slot, own_latch, read_at, slot_in, table_gate, take_nets, wide_gate}
+use Rattle.vw_prog.specs.Due.{settles_net, is_due, is_source, own_latches, nets_read, recorded}
 use Rattle.vw_prog.specs.Loops.{AreLoops, loop_place}
 use Rattle.vw_prog.specs.SeenGates.{SeenGate, narrowed, seen_gates}
 use Rattle.vw_prog.specs.Timetable.{entries_at, is_evaluating, is_sending, timetable}
@@ -106,17 +106,17 @@ module _ (planned : PlannedBoard) (sound : IsSound planned) (node : ℕ) where
   abbrev own : List ℕ
   own = own_latches planned node
 
-  -- an entry that gives a net has an action that does
-  given : (entries : List Entry) → AllByRecursion (HasParts planned sound) entries → (net : ℕ) → list_any (gives net) entries ≡ true
+  -- an entry that settles_net a net has an action that does
+  given : (entries : List Entry) → AllByRecursion (HasParts planned sound) entries → (net : ℕ) → list_any (settles_net net) entries ≡ true
       → (is_among (gate_nets inputs (map (action_of inputs) entries ++ action.Step ∷ [])) net || is_among (take_nets (map (action_of inputs) entries ++ action.Step ∷ [])) net) ≡ true
   given [] all net any = absurd (true≢false (sym any))
   given (entry ∷ entries) all net any =
-      let rest = λ (later : list_any (gives net) entries ≡ true). given entries all.1 net later in
-      by (is_evaluating entry) (is_sending entry) refl refl (or_cases (gives net entry) (list_any (gives net) entries) any) rest where
+      let rest = λ (later : list_any (settles_net net) entries ≡ true). given entries all.1 net later in
+      by (is_evaluating entry) (is_sending entry) refl refl (or_cases (settles_net net entry) (list_any (settles_net net) entries) any) rest where
         abbrev_rest : List Action
         abbrev_rest = map (action_of inputs) entries ++ action.Step ∷ []
 
-        same_net : gives net entry ≡ true → entry.net ≡ net
+        same_net : settles_net net entry ≡ true → entry.net ≡ net
         same_net is = eqb-true entry.net net (and_parts (not (is_sending entry)) (eqb entry.net net) is).1
 
         number : is_evaluating entry ≡ true → min (inputs + (entry.net - inputs)) (2 ^ 32 - 1) ≡ entry.net
@@ -125,24 +125,24 @@ module _ (planned : PlannedBoard) (sound : IsSound planned) (node : ℕ) where
             let low : entry.net < count = all.0.net in
             omega (arith, its.1.0, low, flat.few_inputs, flat.few_cells)
 
-        by : (first second : Bool) → is_evaluating entry ≡ first → is_sending entry ≡ second → (gives net entry ≡ true) ⊎ (list_any (gives net) entries ≡ true)
-            → (list_any (gives net) entries ≡ true → (is_among (gate_nets inputs abbrev_rest) net || is_among (take_nets abbrev_rest) net) ≡ true)
+        by : (first second : Bool) → is_evaluating entry ≡ first → is_sending entry ≡ second → (settles_net net entry ≡ true) ⊎ (list_any (settles_net net) entries ≡ true)
+            → (list_any (settles_net net) entries ≡ true → (is_among (gate_nets inputs abbrev_rest) net || is_among (take_nets abbrev_rest) net) ≡ true)
             → (is_among (gate_nets inputs ((if first then action.Evaluate (entry.net - inputs) else (if second then action.Send entry.link entry.place entry.net else action.Take entry.link entry.place entry.net)) ∷ abbrev_rest)) net
             || is_among (take_nets ((if first then action.Evaluate (entry.net - inputs) else (if second then action.Send entry.link entry.place entry.net else action.Take entry.link entry.place entry.net)) ∷ abbrev_rest)) net) ≡ true
         by true second first_is second_is why rest =
-            ⊎_elim (λ (here : gives net entry ≡ true).
+            ⊎_elim (λ (here : settles_net net entry ≡ true).
             or_left (eqb (min (inputs + (entry.net - inputs)) (2 ^ 32 - 1)) net || is_among (gate_nets inputs abbrev_rest) net) (is_among (take_nets abbrev_rest) net)
             (or_left (eqb (min (inputs + (entry.net - inputs)) (2 ^ 32 - 1)) net) (is_among (gate_nets inputs abbrev_rest) net) (eq-eqb (min (inputs + (entry.net - inputs)) (2 ^ 32 - 1)) net (number first_is ∙ same_net here))))
-            (λ (later : list_any (gives net) entries ≡ true).
+            (λ (later : list_any (settles_net net) entries ≡ true).
             ⊎_elim (λ (one : is_among (gate_nets inputs abbrev_rest) net ≡ true).
             or_left (eqb (min (inputs + (entry.net - inputs)) (2 ^ 32 - 1)) net || is_among (gate_nets inputs abbrev_rest) net) (is_among (take_nets abbrev_rest) net) (or_right (eqb (min (inputs + (entry.net - inputs)) (2 ^ 32 - 1)) net) (is_among (gate_nets inputs abbrev_rest) net) one))
             (λ (two : is_among (take_nets abbrev_rest) net ≡ true). or_right (eqb (min (inputs + (entry.net - inputs)) (2 ^ 32 - 1)) net || is_among (gate_nets inputs abbrev_rest) net) (is_among (take_nets abbrev_rest) net) two)
             (or_cases (is_among (gate_nets inputs abbrev_rest) net) (is_among (take_nets abbrev_rest) net) (rest later))) why
         by false true first_is second_is why rest =
-            ⊎_elim (λ (here : gives net entry ≡ true). absurd (true≢false (sym (and_parts (not (is_sending entry)) (eqb entry.net net) here).0 ∙ ap not second_is))) rest why
+            ⊎_elim (λ (here : settles_net net entry ≡ true). absurd (true≢false (sym (and_parts (not (is_sending entry)) (eqb entry.net net) here).0 ∙ ap not second_is))) rest why
         by false false first_is second_is why rest =
-            ⊎_elim (λ (here : gives net entry ≡ true). or_right (is_among (gate_nets inputs abbrev_rest) net) (eqb entry.net net || is_among (take_nets abbrev_rest) net) (or_left (eqb entry.net net) (is_among (take_nets abbrev_rest) net) (eq-eqb entry.net net (same_net here))))
-            (λ (later : list_any (gives net) entries ≡ true).
+            ⊎_elim (λ (here : settles_net net entry ≡ true). or_right (is_among (gate_nets inputs abbrev_rest) net) (eqb entry.net net || is_among (take_nets abbrev_rest) net) (or_left (eqb entry.net net) (is_among (take_nets abbrev_rest) net) (eq-eqb entry.net net (same_net here))))
+            (λ (later : list_any (settles_net net) entries ≡ true).
             ⊎_elim (λ (one : is_among (gate_nets inputs abbrev_rest) net ≡ true). or_left (is_among (gate_nets inputs abbrev_rest) net) (eqb entry.net net || is_among (take_nets abbrev_rest) net) one)
             (λ (two : is_among (take_nets abbrev_rest) net ≡ true). or_right (is_among (gate_nets inputs abbrev_rest) net) (eqb entry.net net || is_among (take_nets abbrev_rest) net) (or_right (eqb entry.net net) (is_among (take_nets abbrev_rest) net) two))
             (or_cases (is_among (gate_nets inputs abbrev_rest) net) (is_among (take_nets abbrev_rest) net) (rest later))) why
@@ -210,26 +210,26 @@ module _ (planned : PlannedBoard) (sound : IsSound planned) (node : ℕ) where
   due_known : (net : ℕ) → is_due planned node own_entries net ≡ true → is_among known net ≡ true
   due_known net is =
       ⊎_elim (λ (source : is_source planned node net ≡ true). (source_known net source).1)
-      (λ (any : list_any (gives net) own_entries ≡ true). among_known net (or_right (is_among host_nets net || is_among own net) (is_among (gate_nets inputs program) net || is_among (take_nets program) net) (given own_entries all_parts net any)))
-      (or_cases (is_source planned node net) (list_any (gives net) own_entries) is)
+      (λ (any : list_any (settles_net net) own_entries ≡ true). among_known net (or_right (is_among host_nets net || is_among own net) (is_among (gate_nets inputs program) net || is_among (take_nets program) net) (given own_entries all_parts net any)))
+      (or_cases (is_source planned node net) (list_any (settles_net net) own_entries) is)
 
   -- what was due sooner
   due_later : (many : ℕ) (net : ℕ) → is_due planned node (take many own_entries) net ≡ true → is_due planned node own_entries net ≡ true
   due_later many net is =
-      ⊎_elim (λ (source : is_source planned node net ≡ true). or_left (is_source planned node net) (list_any (gives net) own_entries) source)
-      (λ (any : list_any (gives net) (take many own_entries) ≡ true). or_right (is_source planned node net) (list_any (gives net) own_entries) (more own_entries many any))
-      (or_cases (is_source planned node net) (list_any (gives net) (take many own_entries)) is) where
-        more : (entries : List Entry) (many : ℕ) → list_any (gives net) (take many entries) ≡ true → list_any (gives net) entries ≡ true
+      ⊎_elim (λ (source : is_source planned node net ≡ true). or_left (is_source planned node net) (list_any (settles_net net) own_entries) source)
+      (λ (any : list_any (settles_net net) (take many own_entries) ≡ true). or_right (is_source planned node net) (list_any (settles_net net) own_entries) (more own_entries many any))
+      (or_cases (is_source planned node net) (list_any (settles_net net) (take many own_entries)) is) where
+        more : (entries : List Entry) (many : ℕ) → list_any (settles_net net) (take many entries) ≡ true → list_any (settles_net net) entries ≡ true
         more [] zero any = any
         more [] (suc many) any = any
         more (entry ∷ entries) zero any = absurd (true≢false (sym any))
         more (entry ∷ entries) (suc many) any =
-            ⊎_elim (λ (here : gives net entry ≡ true). or_left (gives net entry) (list_any (gives net) entries) here)
-            (λ (later : list_any (gives net) (take many entries) ≡ true). or_right (gives net entry) (list_any (gives net) entries) (more entries many later)) (or_cases (gives net entry) (list_any (gives net) (take many entries)) any)
+            ⊎_elim (λ (here : settles_net net entry ≡ true). or_left (settles_net net entry) (list_any (settles_net net) entries) here)
+            (λ (later : list_any (settles_net net) (take many entries) ≡ true). or_right (settles_net net entry) (list_any (settles_net net) entries) (more entries many later)) (or_cases (settles_net net entry) (list_any (settles_net net) (take many entries)) any)
 
   -- ---- a code
 
-  module _ (code : Code) (made : IsMadeOf flat node latches own_entries count code) where
+  module _ (code : Code) (made : IsCodeOf flat node latches own_entries count code) where
     abbrev nets : List ℕ
     nets = code.nets.items
 
@@ -237,27 +237,27 @@ module _ (planned : PlannedBoard) (sound : IsSound planned) (node : ℕ) where
     table = made.table
 
     -- the table has the slot of a net that is known
-    known_slot : (net : ℕ) → net < count → is_among known net ≡ true → slot_of nets net ≡ Some (slot_in table net)
+    known_slot : (net : ℕ) → net < count → is_among known net ≡ true → net_slot nets net ≡ Some (slot_in table net)
     known_slot net low among =
         let has : HasSlot nets net = subst (λ (list : List ℕ). HasSlot list net) (sym made.nets) (all_have_slots count [] known net low among) in
         let at : slot_in table net ≡ has.0 = made.is.slots net (omega (arith, low, made.long)) ∙ ap (λ (one : Option ℕ). unwrap_or one no_slot) has.1 in
         has.1 ∙ ap Some (sym at)
 
     abbrev IsIn : ℕ → Type 0
-    IsIn net = slot_of nets net ≡ Some (slot_in table net)
+    IsIn net = net_slot nets net ≡ Some (slot_in table net)
 
     due_in : (net : ℕ) → net < count → is_due planned node own_entries net ≡ true → IsIn net
     due_in net low due = known_slot net low (due_known net due)
 
-    slots_map : (list : List ℕ) → AllByRecursion IsIn list → map (slot_of nets) list ≡ map Some (map (slot_in table) list)
+    slots_map : (list : List ℕ) → AllByRecursion IsIn list → map (net_slot nets) list ≡ map Some (map (slot_in table) list)
     slots_map [] all = refl
     slots_map (net ∷ list) all = ap₂ (λ (one : Option ℕ) (rest : List (Option ℕ)). one ∷ rest) all.0 (slots_map list all.1)
 
-    -- what an entry reads
-    read_in : (place : ℕ) (entry : Entry) → slice_get own_entries place ≡ Some entry → (list : List ℕ) → reads planned entry ≡ list → All (λ net. net < count) list → AllByRecursion IsIn list
+    -- what an entry nets_read
+    read_in : (place : ℕ) (entry : Entry) → slice_get own_entries place ≡ Some entry → (list : List ℕ) → nets_read planned entry ≡ list → All (λ net. net < count) list → AllByRecursion IsIn list
     read_in place entry at list are low =
         recursion_from_All IsIn list (λ spot default within.
-        let finds : is_due planned node (take place own_entries) (get_or (reads planned entry) spot default) ≡ true = finds_reads planned sound node place entry at spot default (omega (arith, within, ap (λ (nets : List ℕ). length nets) are)) in
+        let finds : is_due planned node (take place own_entries) (get_or (nets_read planned entry) spot default) ≡ true = finds_reads planned sound node place entry at spot default (omega (arith, within, ap (λ (nets : List ℕ). length nets) are)) in
         due_in (get_or list spot default) (low spot default within) (due_later place (get_or list spot default) (ap (λ (nets : List ℕ). is_due planned node (take place own_entries) (get_or nets spot default)) (sym are) ∙ finds)))
 
     -- ---- gates
@@ -355,16 +355,16 @@ module _ (planned : PlannedBoard) (sound : IsSound planned) (node : ℕ) where
 
     -- an entry that isn't a send makes its net due
     gives_due : (place : ℕ) (entry : Entry) → slice_get own_entries place ≡ Some entry → is_sending entry ≡ false → is_due planned node own_entries entry.net ≡ true
-    gives_due place entry at apart = or_right (is_source planned node entry.net) (list_any (gives entry.net) own_entries) (found own_entries place at) where
-      found : (entries : List Entry) (place : ℕ) → slice_get entries place ≡ Some entry → list_any (gives entry.net) entries ≡ true
+    gives_due place entry at apart = or_right (is_source planned node entry.net) (list_any (settles_net entry.net) own_entries) (found own_entries place at) where
+      found : (entries : List Entry) (place : ℕ) → slice_get entries place ≡ Some entry → list_any (settles_net entry.net) entries ≡ true
       found [] place at = cc
       found (first ∷ entries) zero at =
           let same : first ≡ entry = cc in
-          or_left (gives entry.net first) (list_any (gives entry.net) entries) (ap (gives entry.net) same ∙ and_from (not (is_sending entry)) (eqb entry.net entry.net) (ap not apart) (eq-eqb entry.net entry.net refl))
-      found (first ∷ entries) (suc place) at = or_right (gives entry.net first) (list_any (gives entry.net) entries) (found entries place at)
+          or_left (settles_net entry.net first) (list_any (settles_net entry.net) entries) (ap (settles_net entry.net) same ∙ and_from (not (is_sending entry)) (eqb entry.net entry.net) (ap not apart) (eq-eqb entry.net entry.net refl))
+      found (first ∷ entries) (suc place) at = or_right (settles_net entry.net first) (list_any (settles_net entry.net) entries) (found entries place at)
 
     gate_begins : (place number : ℕ) (at : slice_get program place ≡ Some (action.Evaluate number)) (ins : List ℕ) (cover : Cover) (is : slice_get flat.cells number ≡ Some (Gate ins cover)) → AllByRecursion IsIn ins → IsIn (inputs + number)
-        → (second : Op) × (slice_get code.ops.items place ≡ Some second) × BeginsWith flat code (action.Evaluate number) second
+        → (second : Op) × (slice_get code.ops.items place ≡ Some second) × BeginsWithAction flat code (action.Evaluate number) second
     gate_begins place number at ins cover is all own_in =
         (second, its_op place (action.Evaluate number) at, by (nat_le cover.inputs 6) refl) where
           abbrev_kept : IsKept flat table program [] [] [] (all_ops flat table 0 0 [] program) place (action.Evaluate number)
@@ -376,7 +376,7 @@ module _ (planned : PlannedBoard) (sound : IsSound planned) (node : ℕ) where
           second : Op
           second = (two place (action.Evaluate number) at).0
 
-          by : (few : Bool) → nat_le cover.inputs 6 ≡ few → BeginsWith flat code (action.Evaluate number) (two place (action.Evaluate number) at).0
+          by : (few : Bool) → nat_le cover.inputs 6 ≡ few → BeginsWithAction flat code (action.Evaluate number) (two place (action.Evaluate number) at).0
           by true test =
               let op_is : action_op flat table (kept place (action.Evaluate number) at).first (kept place (action.Evaluate number) at).wide (kept place (action.Evaluate number) at).sooner (action.Evaluate number) ≡ op.Run (kept place (action.Evaluate number) at).first ((kept place (action.Evaluate number) at).first + 1) (slot_in table (inputs + number)) =
               ap (λ (net : ℕ). cell_op (slot_in table net) (kept place (action.Evaluate number) at).first (kept place (action.Evaluate number) at).wide (slice_get flat.cells number)) (net_low is) ∙ ap (cell_op (slot_in table (inputs + number)) (kept place (action.Evaluate number) at).first (kept place (action.Evaluate number) at).wide) is ∙ ap (λ (one : Bool). if one then op.Run (kept place (action.Evaluate number) at).first ((kept place (action.Evaluate number) at).first + 1) (slot_in table (inputs + number)) else op.Wide (kept place (action.Evaluate number) at).wide) test in
@@ -387,7 +387,7 @@ module _ (planned : PlannedBoard) (sound : IsSound planned) (node : ℕ) where
               let here : slice_get (all_gates flat table program) first ≡ Some (its_gate number ins cover is all own_in) = (kept place (action.Evaluate number) at).gate (its_gate number ins cover is all own_in) gates in
               let there : slice_get (seen_gates code.gates) first ≡ Some (narrowed made.gates.room (its_gate number ins cover is all own_in)) =
               ap (λ (list : List SeenGate). slice_get list first) made.gates.are ∙ slice_get-map (narrowed made.gates.room) (all_gates flat table program) first ∙ ap (option_map (narrowed made.gates.room)) here in
-              subst (BeginsWith flat code (action.Evaluate number)) (sym run.1)
+              subst (BeginsWithAction flat code (action.Evaluate number)) (sym run.1)
               (run.2, narrowed made.gates.room (its_gate number ins cover is all own_in), there, is_table_gate number ins cover is all own_in few made.gates.room made.gates.few (made.gates.enough first (its_gate number ins cover is all own_in) here few))
           by false test =
               let op_is : action_op flat table (kept place (action.Evaluate number) at).first (kept place (action.Evaluate number) at).wide (kept place (action.Evaluate number) at).sooner (action.Evaluate number) ≡ op.Wide (kept place (action.Evaluate number) at).wide =
@@ -395,7 +395,7 @@ module _ (planned : PlannedBoard) (sound : IsSound planned) (node : ℕ) where
               let is_op = subst (λ (one : Op). Becomes one (two place (action.Evaluate number) at).0) op_is (two place (action.Evaluate number) at).2 in
               let gates : action_wide flat table (action.Evaluate number) ≡ wide_gate table number (inputs + number) ins ∷ [] = ap (cell_wide inputs table number) is ∙ ap (λ (one : Bool). if one then [] else wide_gate table number (inputs + number) ins ∷ []) test in
               let there : slice_get code.wide.items (kept place (action.Evaluate number) at).wide ≡ Some (wide_gate table number (inputs + number) ins) = ap (λ (list : List WideGate). slice_get list (kept place (action.Evaluate number) at).wide) made.wide ∙ (kept place (action.Evaluate number) at).wide_gate (wide_gate table number (inputs + number) ins) gates in
-              subst (BeginsWith flat code (action.Evaluate number)) (sym is_op) (wide_gate table number (inputs + number) ins, there, is_wide_gate number ins cover is all own_in)
+              subst (BeginsWithAction flat code (action.Evaluate number)) (sym is_op) (wide_gate table number (inputs + number) ins, there, is_wide_gate number ins cover is all own_in)
 
     -- the net of a send has a slot
     sent_in : (place link pin net : ℕ) → slice_get program place ≡ Some (action.Send link pin net) → IsIn net
@@ -405,7 +405,7 @@ module _ (planned : PlannedBoard) (sound : IsSound planned) (node : ℕ) where
         let kind = sending link pin net entry found.1.1 in
         let parts = entry_has planned sound node place entry found.1.0 in
         let apart : is_evaluating entry ≡ false = turn_of (entry.moment % 3) 1 0 (eqb-true (entry.moment % 3) 1 kind.0) (omega arith) in
-        let reads_are : reads planned entry ≡ entry.net ∷ [] =
+        let reads_are : nets_read planned entry ≡ entry.net ∷ [] =
         ap (λ (first : Bool). if first then gate_inputs (driving_cell flat entry.net) else (if is_sending entry then entry.net ∷ [] else [])) apart ∙ ap (λ (second : Bool). if second then entry.net ∷ [] else []) kind.0 in
         let all = read_in place entry found.1.0 (entry.net ∷ []) reads_are (All-from_recursion (λ (one : ℕ). one < count) (entry.net ∷ []) (parts.net, tt)) in
         subst IsIn (sym kind.1) all.0)
@@ -420,7 +420,7 @@ module _ (planned : PlannedBoard) (sound : IsSound planned) (node : ℕ) where
             turn false true two same = (two, cc)
             turn false false two same = cc
 
-    begins : (place : ℕ) (one : Action) → slice_get program place ≡ Some one → (second : Op) × (slice_get code.ops.items place ≡ Some second) × BeginsWith flat code one second
+    begins : (place : ℕ) (one : Action) → slice_get program place ≡ Some one → (second : Op) × (slice_get code.ops.items place ≡ Some second) × BeginsWithAction flat code one second
     begins place (action.Evaluate number) at =
         ⊎_elim (λ found.
         let entry = found.0 in
@@ -430,7 +430,7 @@ module _ (planned : PlannedBoard) (sound : IsSound planned) (node : ℕ) where
         let net_is : entry.net ≡ inputs + number = omega (arith, gate.1.0, turn.1) in
         let same : gate.0 ≡ number = omega (arith, gate.1.0, turn.1) in
         let cell = gate_cell (slice_get flat.cells number) (ap (λ (one : ℕ). is_gate (slice_get flat.cells one)) (sym same) ∙ gate.1.1) in
-        let reads_are : reads planned entry ≡ cell.0 =
+        let reads_are : nets_read planned entry ≡ cell.0 =
         ap (λ (first : Bool). if first then gate_inputs (driving_cell flat entry.net) else (if is_sending entry then entry.net ∷ [] else [])) turn.0
         ∙ ap (λ (net : ℕ). gate_inputs (driving_cell flat net)) net_is ∙ driven number cell.0 cell.1.0 cell.1.1 in
         let all = read_in place entry found.1.0 cell.0 reads_are (cell_fits count flat.cells number (Gate cell.0 cell.1.0) flat.cells_fit cell.1.1).1 in
@@ -499,7 +499,7 @@ module _ (planned : PlannedBoard) (sound : IsSound planned) (node : ℕ) where
                 d_low true at = cc
                 d_low false at = (cell_fits count flat.cells (net - inputs) (Latch d init) flat.cells_fit at).1 0 0 (omega arith)
 
-    map_in : (f : ℕ → ℕ) (list : List ℕ) → AllByRecursion (λ net. IsIn (f net)) list → map (λ net. slot_of nets (f net)) list ≡ map Some (map (λ net. slot_in table (f net)) list)
+    map_in : (f : ℕ → ℕ) (list : List ℕ) → AllByRecursion (λ net. IsIn (f net)) list → map (λ net. net_slot nets (f net)) list ≡ map Some (map (λ net. slot_in table (f net)) list)
     map_in f [] all = refl
     map_in f (net ∷ list) all = ap₂ (λ (one : Option ℕ) (rest : List (Option ℕ)). one ∷ rest) all.0 (map_in f list all.1)
 
@@ -517,11 +517,11 @@ module _ (planned : PlannedBoard) (sound : IsSound planned) (node : ℕ) where
 
     -- ---- shift loops, and the sequencer
 
-    all_sent : AllByRecursion (λ (one : ShiftLoop). AllByRecursion (λ (item : LoopNet). slot_of nets item.net ≡ Some item.slot) one.nets) code.loops.items
+    all_sent : AllByRecursion (λ (one : ShiftLoop). AllByRecursion (λ (item : LoopNet). net_slot nets item.net ≡ Some item.slot) one.nets) code.loops.items
     all_sent =
-        subst (AllNets table (λ item. slot_of nets item.net ≡ Some item.slot)) (sym made.loops)
-        (nets_all table (λ item. slot_of nets item.net ≡ Some item.slot) program (all_from (OfSent table (λ item. slot_of nets item.net ≡ Some item.slot)) program by) [] tt) where
-          by : (place : ℕ) (one : Action) → slice_get program place ≡ Some one → OfSent table (λ item. slot_of nets item.net ≡ Some item.slot) one
+        subst (AllNets table (λ item. net_slot nets item.net ≡ Some item.slot)) (sym made.loops)
+        (nets_all table (λ item. net_slot nets item.net ≡ Some item.slot) program (all_from (OfSent table (λ item. net_slot nets item.net ≡ Some item.slot)) program by) [] tt) where
+          by : (place : ℕ) (one : Action) → slice_get program place ≡ Some one → OfSent table (λ item. net_slot nets item.net ≡ Some item.slot) one
           by place (action.Evaluate number) at = refl
           by place (action.Send link pin net) at = sent_in place link pin net at
           by place (action.Take link pin net) at = refl
@@ -539,8 +539,8 @@ module _ (planned : PlannedBoard) (sound : IsSound planned) (node : ℕ) where
           ∙ joined_runs (all_ops flat table 0 0 [] program) (all_ones flat table program 0 0 []) place first end slot (ap (λ (ops : List Op). slice_get ops place) (sym made.ops) ∙ at) more;
       loops = subst (AreLoops program) (sym made.loops) (are_loops table program);
       sends = λ place one at.
-          All-from_recursion (λ (item : LoopNet). slot_of nets item.net ≡ Some item.slot) one.nets
-          (all_at (λ (one : ShiftLoop). AllByRecursion (λ (item : LoopNet). slot_of nets item.net ≡ Some item.slot) one.nets) code.loops.items place one all_sent at);
+          All-from_recursion (λ (item : LoopNet). net_slot nets item.net ≡ Some item.slot) one.nets
+          (all_at (λ (one : ShiftLoop). AllByRecursion (λ (item : LoopNet). net_slot nets item.net ≡ Some item.slot) one.nets) code.loops.items place one all_sent at);
       sequencer = made.sequencer own_in_order;
       sources = λ net is. let known_net = source_known net is in (slot_in table net, known_slot net known_net.0 known_net.1);
       host = λ is net low.
@@ -548,7 +548,7 @@ module _ (planned : PlannedBoard) (sound : IsSound planned) (node : ℕ) where
           let front : known ≡ range_with_len 0 inputs ++ rest =
           ap (λ (one : Bool). (if one then range_with_len 0 inputs else []) ++ map (λ (latch : OwnLatch). latch.net) latches ++ gate_nets inputs program ++ take_nets program) (eq-eqb node 0 is)
           ∙ regroup (range_with_len 0 inputs) (map (λ (latch : OwnLatch). latch.net) latches) (gate_nets inputs program) (take_nets program) in
-          ap (λ (list : List ℕ). slot_of list net) (made.nets ∙ ap (named_all count []) front)
+          ap (λ (list : List ℕ). net_slot list net) (made.nets ∙ ap (named_all count []) front)
           ∙ first_slots inputs count 0 [] rest (omega arith) refl (λ other past. refl) (λ other under. absurd (omega (arith, under))) net (omega (arith, low));
       records = slots_map (recorded planned node) recorded_in ∙ ap (map Some) (sym records_are);
       latches = slots_map own (own_all IsIn latch_in) ∙ ap (map Some) (sym (made.latches ∙ map_twice (λ (latch : OwnLatch). slot_in table latch.net) (own_latch flat) own));

@@ -6,11 +6,11 @@ use Rattle.std.proofs.lemmas.Bool.{cases_eq, cases_lt}
 use Rattle.std.proofs.lemmas.List.{append-nil, get_or_append_left, get_or_push, get_or-map, get_or-set_other, get_or-set_same, length-set, length_push, map-set}
 use Rattle.std.proofs.lemmas.List.Elements.{filter_more}
 use Rattle.vw_prog.specs.declared.entry.Entry.{Entry}
-use Rattle.vw_prog.specs.Steps.{AreDealt, lists_of}
+use Rattle.vw_prog.specs.Steps.{AreOwnEntries, lists_of}
 use Rattle.vw_prog.specs.Timetable.{entries_at, is_at}
 
 -- one more list without entries
-pub one_more_empty : (count : ℕ) (lists new : List (List Entry)) → new ≡ lists ++ [] ∷ [] → AreDealt count [] lists → AreDealt (count + 1) [] new
+pub one_more_empty : (count : ℕ) (lists new : List (List Entry)) → new ≡ lists ++ [] ∷ [] → AreOwnEntries count [] lists → AreOwnEntries (count + 1) [] new
 one_more_empty count lists new is dealt = record {
   count = ap length is ∙ length_push lists [] ∙ ap (λ (many : ℕ). many + 1) dealt.count;
   each = λ node within.
@@ -21,7 +21,7 @@ one_more_empty count lists new is dealt = record {
       ⊎_elim if_before if_last (cases_lt node count);
 }
 
-module _ (nodes place : ℕ) (entries : List Entry) (entry : Entry) (within : place < length entries) (is : entry ≡ get_or entries place entry) (lists : List (List Entry)) (dealt : AreDealt nodes (take place entries) lists) where
+module _ (nodes place : ℕ) (entries : List Entry) (entry : Entry) (within : place < length entries) (is : entry ≡ get_or entries place entry) (lists : List (List Entry)) (dealt : AreOwnEntries nodes (take place entries) lists) where
   -- the entries of a node, with this one
   one_more : (node : ℕ) → entries_at node (take (place + 1) entries) ≡ entries_at node (take place entries) ++ cond (is_at node entry) (entry ∷ []) []
   one_more node = filter_more (is_at node) entries place entry within ∙ ap (λ (one : Entry). filter (is_at node) (take place entries) ++ cond (is_at node one) (one ∷ []) []) (sym is)
@@ -30,14 +30,14 @@ module _ (nodes place : ℕ) (entries : List Entry) (entry : Entry) (within : pl
   others_keep node other = one_more node ∙ ap (λ (own : Bool). entries_at node (take place entries) ++ cond own (entry ∷ []) []) (ne_eqb entry.node node other) ∙ append-nil _
 
   -- an entry of a node that isn't there
-  pub dealt_past : length lists ≤ entry.node → AreDealt nodes (take (place + 1) entries) lists
+  pub dealt_past : length lists ≤ entry.node → AreOwnEntries nodes (take (place + 1) entries) lists
   dealt_past past = record {
     count = dealt.count;
     each = λ node low. dealt.each node low ∙ sym (others_keep node (λ same. omega (arith, same, past, low, dealt.count)));
   }
 
   -- an entry of a node
-  pub dealt_here : (new : List (List Entry)) → entry.node < length lists → new ≡ set lists entry.node (get_or lists entry.node [] ++ entry ∷ []) → AreDealt nodes (take (place + 1) entries) new
+  pub dealt_here : (new : List (List Entry)) → entry.node < length lists → new ≡ set lists entry.node (get_or lists entry.node [] ++ entry ∷ []) → AreOwnEntries nodes (take (place + 1) entries) new
   dealt_here new inside is_new = record {
     count = ap length is_new ∙ length-set lists entry.node _ ∙ dealt.count;
     each = λ node low.

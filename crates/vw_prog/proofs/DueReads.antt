@@ -1,4 +1,4 @@
--- Each entry of a sound plan finds what it reads due, and so does the step of each node.
+-- Each entry of a sound plan finds what it nets_read due, and so does the step of each node.
 use Rattle.std.proofs.Common.{◌≡◌, ◌≢◌, ◌<◌, ◌≤◌, ◌+◌, ◌-◌, ◌*◌, ◌%◌, ◌&&◌, ◌||◌, ℕ, zero, suc, Bool, true, false, not, List, [], ◌∷◌, length, take, get_or, eqb, nat_lt, slice_get, slice_index, Option, Some, None, if◌then◌else◌, inl, inr, ◌⊎◌, ap, ap₂, refl, sym, ◌∙◌, subst, ⊎_elim, true≢false, eqb-true, eq-eqb, le-ltb, All, arith}
 use Rattle.std.specs.List.{AllByRecursion, list_any, list_all, range_with_len}
 use Rattle.std.proofs.lemmas.Bool.{and_from, and_parts, cases_Bool, cases_lt, ltb-false, ne_eqb, or_cases, or_left, or_right}
@@ -24,7 +24,7 @@ use Rattle.vw_plan.proofs.HopsOfWires.{begins, goes_on}
 use Rattle.vw_plan.proofs.LeadLevels.{lead-by_driver}
 use Rattle.vw_plan.proofs.ReadNets.{read_needed}
 use Rattle.vw_prog.specs.declared.entry.Entry.{Entry}
-use Rattle.vw_prog.specs.Due.{FindsEnds, FindsReads, gives, is_due, is_source, own_latches, reads}
+use Rattle.vw_prog.specs.Due.{FindsEnds, FindsReads, settles_net, is_due, is_source, own_latches, nets_read}
 use Rattle.vw_prog.specs.Timetable.{comes_before, entries, entries_at, gate_entries, gate_entry, hop_entries, is_at, is_sending, sent_entry, taken_entry, timetable, wire_entries}
 use Rattle.vw_prog.proofs.EntryOrder.{by_moment, by_place, is_order}
 use Rattle.vw_prog.proofs.Givers.{Giver, evaluating_gives, gate_is_entry, needed_gives, own_given, taken_is_entry, taking_gives}
@@ -45,7 +45,7 @@ module _ (planned : PlannedBoard) (sound : IsSound planned) where
   abbrev order : List ℕ
   order = planned.ordered.order
 
-  -- an entry that gives the net stands before another one of its node
+  -- an entry that settles_net the net stands before another one of its node
   abbrev GivenBefore : Entry → ℕ → Type 0
   GivenBefore entry net = (giver : Giver planned entry.node net) × (comes_before giver.entry entry ≡ true)
 
@@ -53,7 +53,7 @@ module _ (planned : PlannedBoard) (sound : IsSound planned) where
   abbrev IsFound : Entry → ℕ → Type 0
   IsFound entry net = (is_source planned entry.node net ≡ true) ⊎ GivenBefore entry net
 
-  -- ---- what a gate reads
+  -- ---- what a gate nets_read
 
   module _ (place number : ℕ) (at : slice_get order place ≡ Some number) where
     abbrev net : ℕ
@@ -83,7 +83,7 @@ module _ (planned : PlannedBoard) (sound : IsSound planned) where
     its_chip : home planned net ≡ slice_index planned.plan.chip_of number
     its_chip = ap (λ (input : Bool). if input then 0 else slice_index planned.plan.chip_of (net - inputs)) no_input ∙ ap (slice_index planned.plan.chip_of) its_number
 
-    -- its lead is no less than that of what it reads
+    -- its lead is no less than that of what it nets_read
     reads_sooner : (read : ℕ) → is_among (gate_inputs (driving_cell planned.ordered.flat net)) read ≡ true → lead planned (home planned net) read ≤ lead planned (home planned net) net
     reads_sooner read among =
         let least = greatest_read-least (lead planned (home planned net)) (driving_cell planned.ordered.flat net) read among in
@@ -179,7 +179,7 @@ module _ (planned : PlannedBoard) (sound : IsSound planned) where
   -- ---- each entry
 
   abbrev FindsAll : Entry → Type 0
-  FindsAll entry = (net : ℕ) → is_among (reads planned entry) net ≡ true → IsFound entry net
+  FindsAll entry = (net : ℕ) → is_among (nets_read planned entry) net ≡ true → IsFound entry net
 
   gate_finds : (place number : ℕ) → slice_get order place ≡ Some number → FindsAll (gate_entry planned place number)
   gate_finds place number at net among =
@@ -241,28 +241,28 @@ module _ (planned : PlannedBoard) (sound : IsSound planned) where
 
     pub finds_reads : FindsReads planned node
     finds_reads number entry is = λ place default within.
-        let net = get_or (reads planned entry) place default in
+        let net = get_or (nets_read planned entry) place default in
         let made = take number own_entries in
         let here : entry.node ≡ node = eqb-true entry.node node (all_at (λ (one : Entry). is_at node one ≡ true) own_entries number entry (recursion_from_All (λ (one : Entry). is_at node one ≡ true) own_entries (filter_passes (is_at node) (timetable planned))) is) in
-        let if_source = λ (source : is_source planned entry.node net ≡ true). or_left (is_source planned node net) (list_any (gives net) made) (ap (λ (one : ℕ). is_source planned one net) (sym here) ∙ source) in
+        let if_source = λ (source : is_source planned entry.node net ≡ true). or_left (is_source planned node net) (list_any (settles_net net) made) (ap (λ (one : ℕ). is_source planned one net) (sym here) ∙ source) in
         let if_given = λ (given : GivenBefore entry net).
-        let test = λ (one : Entry). (gives net one && is_at node one) && comes_before one entry in
-        let passes = and_from (gives net given.0.entry && is_at node given.0.entry) (comes_before given.0.entry entry) (and_from (gives net given.0.entry) (is_at node given.0.entry) given.0.gives_net (eq-eqb given.0.entry.node node (given.0.here ∙ here))) given.1 in
-        let any = any_own test (λ one fine. (and_parts (gives net one) (is_at node one) (and_parts (gives net one && is_at node one) (comes_before one entry) fine).0).1) (given.0.is_entry test passes) in
-        let before = stands_before comes_before is_order test own_entries number entry own_rises is (λ one fine. (and_parts (gives net one && is_at node one) (comes_before one entry) fine).1) any in
-        or_right (is_source planned node net) (list_any (gives net) made) (any_weaker test (gives net) (λ one fine. (and_parts (gives net one) (is_at node one) (and_parts (gives net one && is_at node one) (comes_before one entry) fine).0).0) made before) in
-        ⊎_elim if_source if_given (all_at FindsAll own_entries number entry own_find is net (at_among (reads planned entry) place default within))
+        let test = λ (one : Entry). (settles_net net one && is_at node one) && comes_before one entry in
+        let passes = and_from (settles_net net given.0.entry && is_at node given.0.entry) (comes_before given.0.entry entry) (and_from (settles_net net given.0.entry) (is_at node given.0.entry) given.0.gives_net (eq-eqb given.0.entry.node node (given.0.here ∙ here))) given.1 in
+        let any = any_own test (λ one fine. (and_parts (settles_net net one) (is_at node one) (and_parts (settles_net net one && is_at node one) (comes_before one entry) fine).0).1) (given.0.is_entry test passes) in
+        let before = stands_before comes_before is_order test own_entries number entry own_rises is (λ one fine. (and_parts (settles_net net one && is_at node one) (comes_before one entry) fine).1) any in
+        or_right (is_source planned node net) (list_any (settles_net net) made) (any_weaker test (settles_net net) (λ one fine. (and_parts (settles_net net one) (is_at node one) (and_parts (settles_net net one && is_at node one) (comes_before one entry) fine).0).0) made before) in
+        ⊎_elim if_source if_given (all_at FindsAll own_entries number entry own_find is net (at_among (nets_read planned entry) place default within))
 
     -- ---- the step
 
     given_due : (net : ℕ) → Giver planned node net → is_due planned node own_entries net ≡ true
     given_due net giver =
-        let test = λ (one : Entry). gives net one && is_at node one in
-        let any = any_own test (λ one fine. (and_parts (gives net one) (is_at node one) fine).1) (giver.is_entry test (and_from (gives net giver.entry) (is_at node giver.entry) giver.gives_net (eq-eqb giver.entry.node node giver.here))) in
-        or_right (is_source planned node net) (list_any (gives net) own_entries) (any_weaker test (gives net) (λ one fine. (and_parts (gives net one) (is_at node one) fine).0) own_entries any)
+        let test = λ (one : Entry). settles_net net one && is_at node one in
+        let any = any_own test (λ one fine. (and_parts (settles_net net one) (is_at node one) fine).1) (giver.is_entry test (and_from (settles_net net giver.entry) (is_at node giver.entry) giver.gives_net (eq-eqb giver.entry.node node giver.here))) in
+        or_right (is_source planned node net) (list_any (settles_net net) own_entries) (any_weaker test (settles_net net) (λ one fine. (and_parts (settles_net net one) (is_at node one) fine).0) own_entries any)
 
     own_due : (net : ℕ) → net < inputs + length cells → home planned net ≡ node → is_due planned node own_entries net ≡ true
-    own_due net within here = ⊎_elim (λ source. or_left (is_source planned node net) (list_any (gives net) own_entries) source) (λ (g : (giver : Giver planned node net) × (giver.entry.moment ≤ 3 * lead planned node net)). given_due net g.0) (own_given planned sound node net within here)
+    own_due net within here = ⊎_elim (λ source. or_left (is_source planned node net) (list_any (settles_net net) own_entries) source) (λ (g : (giver : Giver planned node net) × (giver.entry.moment ≤ 3 * lead planned node net)). given_due net g.0) (own_given planned sound node net within here)
 
     needed_due : (net : ℕ) → is_needed planned.ordered.flat planned.plan.chip_of net node ≡ true → is_due planned node own_entries net ≡ true
     needed_due net needed = given_due net (needed_gives planned sound node net needed).0
@@ -279,7 +279,7 @@ module _ (planned : PlannedBoard) (sound : IsSound planned) where
     latch_due : (net : ℕ) → (is_latch (driving_cell planned.ordered.flat net) && eqb (home planned net) node) ≡ true → is_due planned node own_entries net ≡ true
     latch_due net is =
         let parts = and_parts (is_latch (driving_cell planned.ordered.flat net)) (eqb (home planned net) node) is in
-        or_left (is_source planned node net) (list_any (gives net) own_entries) (and_from (eqb (home planned net) node) (nat_lt net inputs || is_latch (driving_cell planned.ordered.flat net)) parts.1 (or_right (nat_lt net inputs) (is_latch (driving_cell planned.ordered.flat net)) parts.0))
+        or_left (is_source planned node net) (list_any (settles_net net) own_entries) (and_from (eqb (home planned net) node) (nat_lt net inputs || is_latch (driving_cell planned.ordered.flat net)) parts.1 (or_right (nat_lt net inputs) (is_latch (driving_cell planned.ordered.flat net)) parts.0))
 
     input_due : (latch d : ℕ) (init : Init) → driving_cell planned.ordered.flat latch ≡ Some (Latch d init) → home planned latch ≡ node → is_due planned node own_entries d ≡ true
     input_due latch d init is here =

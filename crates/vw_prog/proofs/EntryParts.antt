@@ -16,14 +16,14 @@ use Rattle.vw_leads.specs.Links.{joins, link_number}
 use Rattle.vw_leads.proofs.FirstPlaces.{LeadsTo}
 use Rattle.vw_leads.proofs.LinkPlaces.{link_leads}
 use Rattle.vw_prog.specs.declared.entry.Entry.{Entry}
-use Rattle.vw_prog.specs.Timetable.{comes_before, entries, entries_at, gate_entries, gate_entry, hop_entries, is_at, is_evaluating, is_sending, is_taking, link_place, sent_entry, taken_entry, timetable, wire_entries}
+use Rattle.vw_prog.specs.Timetable.{comes_before, entries, entries_at, gate_entries, gate_entry, hop_entries, is_at, is_evaluating, is_sending, is_taking, link_of_hop, sent_entry, taken_entry, timetable, wire_entries}
 use Rattle.vw_prog.proofs.LinkPasses.{found_link, place_carries, turn_of}
 use Rattle.vw_net.proofs.ListParts.{all_append, all_at, all_flat_map}
 use Rattle.vw_plan.proofs.NeededWires.{wires_fine}
 use Rattle.vw_net.proofs.SortedLists.{all_filter, all_sorted}
 
 -- the link at the place of a hop is there
-place_there : (links : List Link) (hop : Hop) → has_pin links hop ≡ true → (link : Link) × (slice_get links (link_place links hop) ≡ Some link)
+place_there : (links : List Link) (hop : Hop) → has_pin links hop ≡ true → (link : Link) × (slice_get links (link_of_hop links hop) ≡ Some link)
 place_there links hop pin = by (link_number links hop.from hop.to) (link_leads links hop.from hop.to) where
   by : (found : Option ℕ) → LeadsTo (joins hop.from hop.to) links found → (link : Link) × (slice_get links (unwrap_or found 0) ≡ Some link)
   by None leads = absurd (found_link hop links pin leads)

@@ -19,7 +19,7 @@ use Rattle.vw_plan.proofs.HopsOfWires.{ends}
 use Rattle.vw_plan.proofs.LeadLevels.{lead-by_driver}
 use Rattle.vw_net.proofs.CountsOverLists.{count_cons}
 use Rattle.vw_prog.specs.declared.entry.Entry.{Entry}
-use Rattle.vw_prog.specs.Due.{gives, is_source}
+use Rattle.vw_prog.specs.Due.{settles_net, is_source}
 use Rattle.vw_prog.specs.Timetable.{entries, gate_entries, gate_entry, hop_entries, sent_entry, taken_entry, wire_entries}
 use Rattle.vw_net.proofs.ListParts.{any_flat_map}
 
@@ -58,14 +58,14 @@ module _ (planned : PlannedBoard) where
       (any_flat_map test (λ (one : Hop). sent_entry links wire.net one ∷ taken_entry links wire.net one ∷ []) wire.hops place hop is
       (or_right (test (sent_entry links wire.net hop)) (test (taken_entry links wire.net hop) || false) (or_left (test (taken_entry links wire.net hop)) false passes))))
 
-  -- ---- what gives a net its value at a node
+  -- ---- what settles_net a net its value at a node
 
-  -- an entry of the node that gives the net
+  -- an entry of the node that settles_net the net
   pub record Giver (node net : ℕ) : Type 0 where
     pub entry : Entry
     pub is_entry : IsEntry entry
     pub here : entry.node ≡ node
-    pub gives_net : gives net entry ≡ true
+    pub gives_net : settles_net net entry ≡ true
 
   pub evaluating_gives : (moment net other : ℕ) → net ≡ other → (not (eqb (3 * moment % 3) 1) && eqb net other) ≡ true
   evaluating_gives moment net other same = and_from (not (eqb (3 * moment % 3) 1)) (eqb net other) (ap not (not_one moment)) (eq-eqb net other same) where
@@ -77,7 +77,7 @@ module _ (planned : PlannedBoard) where
     not_one : (m : ℕ) → eqb ((3 * m + 2) % 3) 1 ≡ false
     not_one m = let is : (3 * m + 2) % 3 ≡ 2 = omega arith in ap (λ (rest : ℕ). eqb rest 1) is
 
-  -- the gate at a place gives its net
+  -- the gate at a place settles_net its net
   pub gate_gives : (place net : ℕ) → planned.ordered.flat.inputs ≤ net → slice_get planned.ordered.order place ≡ Some (net - planned.ordered.flat.inputs) → (giver : Giver (home planned net) net) × (giver.entry.moment ≤ 3 * lead planned (home planned net) net)
   gate_gives place net driven is =
       let number = net - planned.ordered.flat.inputs in
@@ -101,7 +101,7 @@ module _ (planned : PlannedBoard) where
         let whole : (number : ℕ) × ((other : Wire) × ((slice_get (wire ∷ wires) number ≡ Some other) × (test other ≡ true) × (find test (wire ∷ wires) ≡ Some other))) = (suc rest.0, (rest.1.0, (rest.1.1.0, rest.1.1.1, ap (λ (here : Bool). if here then Some wire else find test wires) no ∙ rest.1.1.2))) in whole in
         ⊎_elim if_here if_later (cases_Bool (test wire))
 
-    -- the last hop of the wire that brings the net gives it
+    -- the last hop of the wire that brings the net settles_net it
     pub needed_gives : (node net : ℕ) → is_needed planned.ordered.flat planned.plan.chip_of net node ≡ true → (giver : Giver node net) × (giver.entry.moment < 3 * lead planned node net)
     needed_gives node net needed =
         let flat = planned.ordered.flat in

@@ -23,7 +23,7 @@ use Rattle.vw_leads.proofs.FirstPlaces.{LeadsTo}
 use Rattle.vw_leads.proofs.LinkPlaces.{link_leads}
 use Rattle.vw_prog.specs.declared.entry.Entry.{Entry}
 use Rattle.vw_net.specs.Sorting.{sorted}
-use Rattle.vw_prog.specs.Timetable.{comes_before, entries, entries_at, gate_entries, gate_entry, hop_entries, is_at, is_sending, is_sent, is_taken, is_taking, link_place, passes, sent_entry, taken_entry, taken_from, timetable, wire_entries}
+use Rattle.vw_prog.specs.Timetable.{comes_before, entries, entries_at, gate_entries, gate_entry, hop_entries, is_at, is_sending, is_sent, is_taken, is_taking, link_of_hop, passes, sent_entry, taken_entry, taken_from, timetable, wire_entries}
 use Rattle.vw_prog.proofs.EntryOrder.{is_order}
 use Rattle.vw_net.proofs.ListParts.{all_append, all_flat_map}
 use Rattle.vw_net.proofs.SortedLists.{all_sorted, filter_sorted, sorted_map}
@@ -57,7 +57,7 @@ find_passes test (first ∷ links) link is =
     ⊎_elim if_here if_later (cases_Bool (test first))
 
 -- the link at the place of a hop carries it
-pub place_carries : (links : List Link) (hop : Hop) (link : Link) → has_pin links hop ≡ true → slice_get links (link_place links hop) ≡ Some link → carries hop link ≡ true
+pub place_carries : (links : List Link) (hop : Hop) (link : Link) → has_pin links hop ≡ true → slice_get links (link_of_hop links hop) ≡ Some link → carries hop link ≡ true
 place_carries links hop link pin is = by (link_number links hop.from hop.to) (link_leads links hop.from hop.to) is where
   by : (found : Option ℕ) → LeadsTo (joins hop.from hop.to) links found → slice_get links (unwrap_or found 0) ≡ Some link → carries hop link ≡ true
   by None leads there = absurd (found_link hop links pin leads)
@@ -97,7 +97,7 @@ module _ (planned : PlannedBoard) (sound : IsSound planned) (number : ℕ) (link
   abbrev TakesAt : Entry → Type 0
   TakesAt entry = is_taken number entry ≡ true → is_at link.to entry ≡ true
 
-  its_link : (hop : Hop) → has_pin links hop ≡ true → link_place links hop ≡ number → carries hop link ≡ true
+  its_link : (hop : Hop) → has_pin links hop ≡ true → link_of_hop links hop ≡ number → carries hop link ≡ true
   its_link hop pin at = place_carries links hop link pin (ap (slice_get links) at ∙ there)
 
   gate_no_send : (place gate : ℕ) → is_sending (gate_entry planned place gate) ≡ false
@@ -128,39 +128,39 @@ module _ (planned : PlannedBoard) (sound : IsSound planned) (number : ℕ) (link
 
     sent_from : SendsFrom sent
     sent_from is =
-        let at : link_place links hop ≡ number = eqb-true (link_place links hop) number (and_parts (is_sending sent) (eqb (link_place links hop) number) is).1 in
+        let at : link_of_hop links hop ≡ number = eqb-true (link_of_hop links hop) number (and_parts (is_sending sent) (eqb (link_of_hop links hop) number) is).1 in
         let ends = and_parts (eqb link.from hop.from) (eqb link.to hop.to) (its_link hop pin at) in
         eq-eqb hop.from link.from (sym (eqb-true link.from hop.from ends.0))
 
     taken_at : TakesAt taken
     taken_at is =
-        let at : link_place links hop ≡ number = eqb-true (link_place links hop) number (and_parts (is_taking taken) (eqb (link_place links hop) number) is).1 in
+        let at : link_of_hop links hop ≡ number = eqb-true (link_of_hop links hop) number (and_parts (is_taking taken) (eqb (link_of_hop links hop) number) is).1 in
         let ends = and_parts (eqb link.from hop.from) (eqb link.to hop.to) (its_link hop pin at) in
         eq-eqb hop.to link.to (sym (eqb-true link.to hop.to ends.1))
 
     no_send : SendsFrom taken
-    no_send is = absurd (true≢false (sym (and_parts (is_sending taken) (eqb (link_place links hop) number) is).0 ∙ taken_no_send))
+    no_send is = absurd (true≢false (sym (and_parts (is_sending taken) (eqb (link_of_hop links hop) number) is).0 ∙ taken_no_send))
 
     no_take : TakesAt sent
-    no_take is = absurd (true≢false (sym (and_parts (is_taking sent) (eqb (link_place links hop) number) is).0 ∙ sent_no_take))
+    no_take is = absurd (true≢false (sym (and_parts (is_taking sent) (eqb (link_of_hop links hop) number) is).0 ∙ sent_no_take))
 
     -- what it takes is what it sends, so much later
     hop_passes : filter (is_taken number) (sent ∷ taken ∷ []) ≡ map later (filter (is_sent number) (sent ∷ taken ∷ []))
     hop_passes =
-        let if_here = λ (own : eqb (link_place links hop) number ≡ true).
-        let at : link_place links hop ≡ number = eqb-true (link_place links hop) number own in
+        let if_here = λ (own : eqb (link_of_hop links hop) number ≡ true).
+        let at : link_of_hop links hop ≡ number = eqb-true (link_of_hop links hop) number own in
         let carried = its_link hop pin at in
         let ends = and_parts (eqb link.from hop.from) (eqb link.to hop.to) carried in
         let same : taken ≡ later sent = later_is (arrives planned.board number link hop there carried) (sym (eqb-true link.to hop.to ends.1)) in
         let whole : filter (is_taken number) (sent ∷ taken ∷ []) ≡ map later (filter (is_sent number) (sent ∷ taken ∷ [])) = rw (sent_no_take, taken_takes, sent_sends, taken_no_send, own) (ap (λ (one : Entry). one ∷ []) same) in whole in
-        let if_other = λ (other : eqb (link_place links hop) number ≡ false).
+        let if_other = λ (other : eqb (link_of_hop links hop) number ≡ false).
         let whole : filter (is_taken number) (sent ∷ taken ∷ []) ≡ map later (filter (is_sent number) (sent ∷ taken ∷ [])) = rw (sent_no_take, taken_takes, sent_sends, taken_no_send, other) refl in whole in
-        ⊎_elim if_here if_other (cases_Bool (eqb (link_place links hop) number)) where
+        ⊎_elim if_here if_other (cases_Bool (eqb (link_of_hop links hop) number)) where
           later_is : arrival links hop + 1 ≡ hop.at + link.delay → hop.to ≡ link.to → taken ≡ later sent
           later_is arrived to =
               let timely : (1 ≤ link.delay) × (link.delay ≤ 16) = subst (λ (one : Link). (1 ≤ one.delay) × (one.delay ≤ 16)) (get_or_from_slice_get links number link link there) (planned.board.linked.separate.timely number link (slice_get_within links number link there)) in
               let moment : taken.moment ≡ (later sent).moment = omega (arith, arrived, timely.0) in
-              λ i. record { moment = moment i; link = link_place links hop; place = hop.pin; node = to i; net = net }
+              λ i. record { moment = moment i; link = link_of_hop links hop; place = hop.pin; node = to i; net = net }
 
   -- ---- all entries
 

@@ -8,7 +8,7 @@ use Rattle.vw_prog.specs.declared.action.Action.{Action}
 use Rattle.vw_prog.specs.declared.action.Action.TheVariants as action
 use Rattle.vw_prog.specs.declared.shift.LoopNet.{LoopNet}
 use Rattle.vw_prog.specs.declared.shift.ShiftLoop.{ShiftLoop}
-use Rattle.vw_prog.specs.Loops.{AreLoops, Stand, nets_of, place_after, sent_over}
+use Rattle.vw_prog.specs.Loops.{AreLoops, Stand, loop_nets, place_after, sent_over}
 use Rattle.vw_prog.proofs.ShiftLoops.{other_pin, same_pin}
 use Rattle.vw_prog.proofs.UnfoldedCodes.{sent_there}
 
@@ -68,7 +68,7 @@ module _ (program : List Action) (loops : List ShiftLoop) where
         count = stand.count;
         stands = λ place one there.
             let whole : take made program ≡ program = take_all made program all in
-            let nets : sent_over one.link one.pin (take made program) ≡ nets_of one = ap (sent_over one.link one.pin) whole ∙ sym (are.nets place one there) in
+            let nets : sent_over one.link one.pin (take made program) ≡ loop_nets one = ap (sent_over one.link one.pin) whole ∙ sym (are.nets place one there) in
             let many : length (sent_over one.link one.pin (take made program)) ≡ length one.nets = ap (λ (list : List ℕ). length list) nets ∙ length-map one.nets (λ (item : LoopNet). item.net) in
             stand.stands place one there ∙ all_after (length one.nets) (length (sent_over one.link one.pin (take made program))) many ∙ sym (none_after (length one.nets));
       }
@@ -77,14 +77,14 @@ module _ (program : List Action) (loops : List ShiftLoop) where
         abbrev turns : ℕ
         turns = length (sent_over one.link one.pin (take made program))
 
-        sent : slice_get (nets_of one) turns ≡ Some net
+        sent : slice_get (loop_nets one) turns ≡ Some net
         sent =
             ap (λ (nets : List ℕ). slice_get nets turns) (are.nets at one there)
             ∙ ap₂ (λ (link pin : ℕ). slice_get (sent_over link pin program) (length (sent_over link pin (take made program)))) its_link its_pin
             ∙ sent_there link pin net program made next
 
         turns_inside : turns < length one.nets
-        turns_inside = omega (arith, slice_get_within (nets_of one) turns net sent, length-map one.nets (λ (item : LoopNet). item.net))
+        turns_inside = omega (arith, slice_get_within (loop_nets one) turns net sent, length-map one.nets (λ (item : LoopNet). item.net))
 
         place_is : slice_index_or places at 0 ≡ turns
         place_is = stand.stands at one there ∙ some_after (length one.nets) turns turns_inside
@@ -93,8 +93,8 @@ module _ (program : List Action) (loops : List ShiftLoop) where
         pub place_inside : slice_index_or places at 0 < length one.nets
         place_inside = omega (arith, place_is, turns_inside)
 
-        pub net_here : slice_get (nets_of one) (slice_index_or places at 0) ≡ Some net
-        net_here = ap (slice_get (nets_of one)) place_is ∙ sent
+        pub net_here : slice_get (loop_nets one) (slice_index_or places at 0) ≡ Some net
+        net_here = ap (slice_get (loop_nets one)) place_is ∙ sent
 
         own_sent : sent_over one.link one.pin (action.Send link pin net ∷ []) ≡ net ∷ []
         own_sent = ap (λ (own : Bool). if own then net ∷ [] else []) (same_pin link pin one.link one.pin (sym its_link) (sym its_pin))

@@ -8,29 +8,29 @@ use Rattle.std.proofs.lemmas.List.{get_or-set_other, get_or-set_same, length-set
 use Rattle.vw_net.specs.Order.{is_among}
 use Rattle.vw_net.specs.Steps.Bits.{one_if}
 use Rattle.vw_net.proofs.CountsOverLists.{count_cons}
-use Rattle.vw_prog.specs.Codes.{HasSlot, slot_of}
+use Rattle.vw_prog.specs.Codes.{HasSlot, net_slot}
 use Rattle.vw_prog.specs.Coding.{IsTable, cleared, named, named_all, no_slot, slot_in}
 
 -- ---- slots
 
-push_other : (nets : List ℕ) (net other : ℕ) → (net ≡ other → ⊥) → slot_of (nets ++ net ∷ []) other ≡ slot_of nets other
+push_other : (nets : List ℕ) (net other : ℕ) → (net ≡ other → ⊥) → net_slot (nets ++ net ∷ []) other ≡ net_slot nets other
 push_other [] net other apart = ap (λ (same : Bool). if same then Some 0 else None) (ne_eqb net other apart)
 push_other (first ∷ nets) net other apart = ap (λ (rest : Option ℕ). if eqb first other then Some 0 else option_map suc rest) (push_other nets net other apart)
 
-push_new : (nets : List ℕ) (net : ℕ) → slot_of nets net ≡ None → slot_of (nets ++ net ∷ []) net ≡ Some (length nets)
+push_new : (nets : List ℕ) (net : ℕ) → net_slot nets net ≡ None → net_slot (nets ++ net ∷ []) net ≡ Some (length nets)
 push_new [] net new = ap (λ (same : Bool). if same then Some 0 else None) (eq-eqb net net refl)
-push_new (first ∷ nets) net new = by (eqb first net) (slot_of nets net) refl new (λ rest. push_new nets net rest) where
-  by : (same : Bool) (found : Option ℕ) → slot_of nets net ≡ found → (if same then Some 0 else option_map suc found) ≡ None → (slot_of nets net ≡ None → slot_of (nets ++ net ∷ []) net ≡ Some (length nets))
-      → (if same then Some 0 else option_map suc (slot_of (nets ++ net ∷ []) net)) ≡ Some (suc (length nets))
+push_new (first ∷ nets) net new = by (eqb first net) (net_slot nets net) refl new (λ rest. push_new nets net rest) where
+  by : (same : Bool) (found : Option ℕ) → net_slot nets net ≡ found → (if same then Some 0 else option_map suc found) ≡ None → (net_slot nets net ≡ None → net_slot (nets ++ net ∷ []) net ≡ Some (length nets))
+      → (if same then Some 0 else option_map suc (net_slot (nets ++ net ∷ []) net)) ≡ Some (suc (length nets))
   by true found there none rest = cc
   by false (Some place) there none rest = cc
   by false None there none rest = ap (option_map suc) (rest there)
 
 -- a slot is below the number of nets
-pub below : (nets : List ℕ) (net slot : ℕ) → slot_of nets net ≡ Some slot → slot < length nets
+pub below : (nets : List ℕ) (net slot : ℕ) → net_slot nets net ≡ Some slot → slot < length nets
 below [] net slot is = cc
-below (first ∷ nets) net slot is = by (eqb first net) (slot_of nets net) refl is (λ place there. below nets net place there) where
-  by : (same : Bool) (found : Option ℕ) → slot_of nets net ≡ found → (if same then Some 0 else option_map suc found) ≡ Some slot → ((place : ℕ) → slot_of nets net ≡ Some place → place < length nets) → slot < suc (length nets)
+below (first ∷ nets) net slot is = by (eqb first net) (net_slot nets net) refl is (λ place there. below nets net place there) where
+  by : (same : Bool) (found : Option ℕ) → net_slot nets net ≡ found → (if same then Some 0 else option_map suc found) ≡ Some slot → ((place : ℕ) → net_slot nets net ≡ Some place → place < length nets) → slot < suc (length nets)
   by true found there at rest = let same : 0 ≡ slot = cc in omega (arith, same)
   by false None there at rest = cc
   by false (Some place) there at rest = let same : suc place ≡ slot = cc in omega (arith, same, rest place there)
@@ -53,9 +53,9 @@ module _ (nets table : List ℕ) (is : IsTable nets table) (few : length table <
     within : net < length table
     within = ltb-true net (length table) (and_parts (nat_lt net (length table)) (is_none (slot_in table net)) free).0
 
-    no_one : slot_of nets net ≡ None
-    no_one = by (slot_of nets net) refl where
-      by : (found : Option ℕ) → slot_of nets net ≡ found → found ≡ None
+    no_one : net_slot nets net ≡ None
+    no_one = by (net_slot nets net) refl where
+      by : (found : Option ℕ) → net_slot nets net ≡ found → found ≡ None
       by None there = refl
       by (Some slot) there =
           let at : slot_in table net ≡ slot = is.slots net within ∙ ap (λ (one : Option ℕ). unwrap_or one no_slot) there in
@@ -74,7 +74,7 @@ module _ (nets table : List ℕ) (is : IsTable nets table) (few : length table <
           slots = λ other low.
               let if_same = λ (same : other ≡ net).
               ap (λ (one : ℕ). get_or (set table net (length nets)) one 0) same ∙ get_or-set_same table net (length nets) 0 within
-              ∙ sym (ap (λ (one : ℕ). unwrap_or (slot_of (nets ++ net ∷ []) one) no_slot) same ∙ ap (λ (one : Option ℕ). unwrap_or one no_slot) (push_new nets net no_one)) in
+              ∙ sym (ap (λ (one : ℕ). unwrap_or (net_slot (nets ++ net ∷ []) one) no_slot) same ∙ ap (λ (one : Option ℕ). unwrap_or one no_slot) (push_new nets net no_one)) in
               let if_other = λ (apart : other ≡ net → ⊥).
               get_or-set_other table net other (length nets) 0 apart ∙ is.slots other (omega (arith, low, long))
               ∙ sym (ap (λ (one : Option ℕ). unwrap_or one no_slot) (push_other nets net other (λ same. apart (sym same)))) in
@@ -83,8 +83,8 @@ module _ (nets table : List ℕ) (is : IsTable nets table) (few : length table <
         }
 
   pub named_old : (nat_lt net (length table) && is_none (slot_in table net)) ≡ false → nets ≡ named (length table) nets net
-  named_old taken = sym (by (nat_lt net (length table)) (slot_of nets net) refl refl) where
-    by : (low : Bool) (found : Option ℕ) → nat_lt net (length table) ≡ low → slot_of nets net ≡ found → (if low && not (is_some found) then nets ++ net ∷ [] else nets) ≡ nets
+  named_old taken = sym (by (nat_lt net (length table)) (net_slot nets net) refl refl) where
+    by : (low : Bool) (found : Option ℕ) → nat_lt net (length table) ≡ low → net_slot nets net ≡ found → (if low && not (is_some found) then nets ++ net ∷ [] else nets) ≡ nets
     by false found at there = refl
     by true (Some slot) at there = refl
     by true None at there =
@@ -128,10 +128,10 @@ count_all test [] all = refl
 count_all test (x ∷ xs) all = omega (arith, count_cons test x xs, ap one_if (all 0 (omega arith)), count_all test xs (λ place within. all (suc place) (omega (arith, within))))
 
 -- a net with a slot is among them
-slot_among : (nets : List ℕ) (net slot : ℕ) → slot_of nets net ≡ Some slot → is_among nets net ≡ true
+slot_among : (nets : List ℕ) (net slot : ℕ) → net_slot nets net ≡ Some slot → is_among nets net ≡ true
 slot_among [] net slot is = cc
-slot_among (first ∷ nets) net slot is = by (eqb first net) (slot_of nets net) refl is (λ place there. slot_among nets net place there) where
-  by : (same : Bool) (found : Option ℕ) → slot_of nets net ≡ found → (if same then Some 0 else option_map suc found) ≡ Some slot → ((place : ℕ) → slot_of nets net ≡ Some place → is_among nets net ≡ true) → (same || is_among nets net) ≡ true
+slot_among (first ∷ nets) net slot is = by (eqb first net) (net_slot nets net) refl is (λ place there. slot_among nets net place there) where
+  by : (same : Bool) (found : Option ℕ) → net_slot nets net ≡ found → (if same then Some 0 else option_map suc found) ≡ Some slot → ((place : ℕ) → net_slot nets net ≡ Some place → is_among nets net ≡ true) → (same || is_among nets net) ≡ true
   by true found there at rest = refl
   by false None there at rest = cc
   by false (Some place) there at rest = rest place there
@@ -140,36 +140,36 @@ pub table_cleared : (nets table : List ℕ) → IsTable nets table → IsTable [
 table_cleared nets table is =
     let none = λ (net : ℕ) (low : net < length (cleared nets table)).
     let within : net < length table = omega (arith, low, length-cleared nets table) in
-    cleared_at nets table net within (by net (slot_of nets net) refl (is.slots net within)) in
+    cleared_at nets table net within (by net (net_slot nets net) refl (is.slots net within)) in
     record {
       slots = λ net low. none net low;
       free = omega (arith, count_all is_none (cleared nets table) (λ net low. eq-eqb (get_or (cleared nets table) net 0) no_slot (none net low)));
     } where
-      by : (net : ℕ) (found : Option ℕ) → slot_of nets net ≡ found → get_or table net 0 ≡ unwrap_or (slot_of nets net) no_slot → (is_among nets net ≡ true) ⊎ (get_or table net 0 ≡ no_slot)
+      by : (net : ℕ) (found : Option ℕ) → net_slot nets net ≡ found → get_or table net 0 ≡ unwrap_or (net_slot nets net) no_slot → (is_among nets net ≡ true) ⊎ (get_or table net 0 ≡ no_slot)
       by net (Some slot) there at = inl (slot_among nets net slot there)
       by net None there at = inr (at ∙ ap (λ (one : Option ℕ). unwrap_or one no_slot) there)
 
 -- ---- nets that were named
 
 -- what has a slot keeps it
-named_keeps : (count : ℕ) (nets : List ℕ) (net other slot : ℕ) → slot_of nets other ≡ Some slot → slot_of (named count nets net) other ≡ Some slot
-named_keeps count nets net other slot is = by (nat_lt net count) (slot_of nets net) refl where
-  by : (low : Bool) (found : Option ℕ) → slot_of nets net ≡ found → slot_of (if low && not (is_some found) then nets ++ net ∷ [] else nets) other ≡ Some slot
+named_keeps : (count : ℕ) (nets : List ℕ) (net other slot : ℕ) → net_slot nets other ≡ Some slot → net_slot (named count nets net) other ≡ Some slot
+named_keeps count nets net other slot is = by (nat_lt net count) (net_slot nets net) refl where
+  by : (low : Bool) (found : Option ℕ) → net_slot nets net ≡ found → net_slot (if low && not (is_some found) then nets ++ net ∷ [] else nets) other ≡ Some slot
   by false found there = is
   by true (Some place) there = is
   by true None there = push_other nets net other (λ same. none same there) ∙ is where
-    none : net ≡ other → slot_of nets net ≡ None → ⊥
-    none same there = let both : Some slot ≡ None = sym is ∙ ap (slot_of nets) (sym same) ∙ there in cc
+    none : net ≡ other → net_slot nets net ≡ None → ⊥
+    none same there = let both : Some slot ≡ None = sym is ∙ ap (net_slot nets) (sym same) ∙ there in cc
 
-pub all_keep : (count : ℕ) (nets list : List ℕ) (other slot : ℕ) → slot_of nets other ≡ Some slot → slot_of (named_all count nets list) other ≡ Some slot
+pub all_keep : (count : ℕ) (nets list : List ℕ) (other slot : ℕ) → net_slot nets other ≡ Some slot → net_slot (named_all count nets list) other ≡ Some slot
 all_keep count nets [] other slot is = is
 all_keep count nets (net ∷ list) other slot is = all_keep count (named count nets net) list other slot (named_keeps count nets net other slot is)
 
 named_has : (count : ℕ) (nets : List ℕ) (net : ℕ) → net < count → HasSlot (named count nets net) net
-named_has count nets net low = by (slot_of nets net) refl where
-  by : (found : Option ℕ) → slot_of nets net ≡ found → HasSlot (named count nets net) net
+named_has count nets net low = by (net_slot nets net) refl where
+  by : (found : Option ℕ) → net_slot nets net ≡ found → HasSlot (named count nets net) net
   by (Some slot) there = (slot, named_keeps count nets net net slot there)
-  by None there = (length nets, ap₂ (λ (test : Bool) (found : Option ℕ). slot_of (if test && not (is_some found) then nets ++ net ∷ [] else nets) net) (lt-ltb net count low) there ∙ push_new nets net there)
+  by None there = (length nets, ap₂ (λ (test : Bool) (found : Option ℕ). net_slot (if test && not (is_some found) then nets ++ net ∷ [] else nets) net) (lt-ltb net count low) there ∙ push_new nets net there)
 
 pub all_have_slots : (count : ℕ) (nets list : List ℕ) (net : ℕ) → net < count → is_among list net ≡ true → HasSlot (named_all count nets list) net
 all_have_slots count nets [] net low among = absurd (true≢false (sym among))
@@ -177,13 +177,13 @@ all_have_slots count nets (first ∷ list) net low among =
     let if_first = λ (same : eqb first net ≡ true).
     let is : first ≡ net = eqb-true first net same in
     let has = named_has count nets first (omega (arith, is, low)) in
-    let whole : HasSlot (named_all count nets (first ∷ list)) net = (has.0, all_keep count (named count nets first) list net has.0 (ap (slot_of (named count nets first)) (sym is) ∙ has.1)) in whole in
+    let whole : HasSlot (named_all count nets (first ∷ list)) net = (has.0, all_keep count (named count nets first) list net has.0 (ap (net_slot (named count nets first)) (sym is) ∙ has.1)) in whole in
     let if_later = λ (later : is_among list net ≡ true). all_have_slots count (named count nets first) list net low later in
     ⊎_elim if_first if_later (or_cases (eqb first net) (is_among list net) among)
 
 -- the first nets have the first slots
-pub first_slots : (many count first : ℕ) (nets list : List ℕ) → first + many ≤ count → length nets ≡ first → ((net : ℕ) → first ≤ net → slot_of nets net ≡ None) → ((net : ℕ) → net < first → slot_of nets net ≡ Some net)
-    → (net : ℕ) → net < first + many → slot_of (named_all count nets (range_with_len first many ++ list)) net ≡ Some net
+pub first_slots : (many count first : ℕ) (nets list : List ℕ) → first + many ≤ count → length nets ≡ first → ((net : ℕ) → first ≤ net → net_slot nets net ≡ None) → ((net : ℕ) → net < first → net_slot nets net ≡ Some net)
+    → (net : ℕ) → net < first + many → net_slot (named_all count nets (range_with_len first many ++ list)) net ≡ Some net
 first_slots zero count first nets list room long none some net low = all_keep count nets list net net (some net (omega (arith, low)))
 first_slots (suc many) count first nets list room long none some net low =
     let new : named count nets first ≡ nets ++ first ∷ [] = ap₂ (λ (test : Bool) (found : Option ℕ). if test && not (is_some found) then nets ++ first ∷ [] else nets) (lt-ltb first count (omega (arith, room))) (none first (omega arith)) in
@@ -191,6 +191,6 @@ first_slots (suc many) count first nets list room long none some net low =
     let rest = first_slots many count (first + 1) now list (omega (arith, room)) (length_push nets first ∙ ap (λ (n : ℕ). n + 1) long)
     (λ other past. push_other nets first other (λ same. omega (arith, same, past)) ∙ none other (omega (arith, past)))
     (λ other under. ⊎_elim (λ (before : other < first). push_other nets first other (λ same. omega (arith, same, before)) ∙ some other before)
-    (λ (at : first ≤ other). let same : first ≡ other = omega (arith, at, under) in ap (slot_of now) (sym same) ∙ push_new nets first (none first (omega arith)) ∙ ap Some (long ∙ same)) (cases_lt other first))
+    (λ (at : first ≤ other). let same : first ≡ other = omega (arith, at, under) in ap (net_slot now) (sym same) ∙ push_new nets first (none first (omega arith)) ∙ ap Some (long ∙ same)) (cases_lt other first))
     net (omega (arith, low)) in
-    ap (λ (named_now : List ℕ). slot_of (named_all count named_now (range_with_len (first + 1) many ++ list)) net) new ∙ rest
+    ap (λ (named_now : List ℕ). net_slot (named_all count named_now (range_with_len (first + 1) many ++ list)) net) new ∙ rest

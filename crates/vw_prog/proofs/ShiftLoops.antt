@@ -9,7 +9,7 @@ use Rattle.vw_prog.specs.declared.action.Action.TheVariants as action
 use Rattle.vw_prog.specs.declared.shift.LoopNet.{LoopNet}
 use Rattle.vw_prog.specs.declared.shift.ShiftLoop.{ShiftLoop}
 use Rattle.vw_prog.specs.Coding.{all_loops, slot_in, with_net}
-use Rattle.vw_prog.specs.Loops.{AreLoops, is_of, loop_place, nets_of, sent_over}
+use Rattle.vw_prog.specs.Loops.{AreLoops, is_of, loop_place, loop_nets, sent_over}
 
 -- ---- pins
 
@@ -33,26 +33,26 @@ neither false two is = (refl, is)
 -- the nets of the loop of a pin, where there is one
 abbrev pub nets_over : ℕ → ℕ → List ShiftLoop → List ℕ
 nets_over link pin [] = []
-nets_over link pin (one ∷ loops) = if is_of link pin one then nets_of one else nets_over link pin loops
+nets_over link pin (one ∷ loops) = if is_of link pin one then loop_nets one else nets_over link pin loops
 
 over_same : (link pin : ℕ) (item : LoopNet) (loops : List ShiftLoop) → nets_over link pin (with_net link pin item loops) ≡ nets_over link pin loops ++ item.net ∷ []
 over_same link pin item [] = ap (λ (own : Bool). if own then item.net ∷ [] else []) (same_pin link pin link pin refl refl)
 over_same link pin item (one ∷ loops) = by (is_of link pin one) refl (over_same link pin item loops) where
   by : (own : Bool) → is_of link pin one ≡ own → nets_over link pin (with_net link pin item loops) ≡ nets_over link pin loops ++ item.net ∷ []
-      → nets_over link pin (if own then record one { nets = one.nets ++ item ∷ [] } ∷ loops else one ∷ with_net link pin item loops) ≡ (if own then nets_of one else nets_over link pin loops) ++ item.net ∷ []
+      → nets_over link pin (if own then record one { nets = one.nets ++ item ∷ [] } ∷ loops else one ∷ with_net link pin item loops) ≡ (if own then loop_nets one else nets_over link pin loops) ++ item.net ∷ []
   by true is rest = ap (λ (own : Bool). if own then map (λ (one : LoopNet). one.net) (one.nets ++ item ∷ []) else nets_over link pin loops) is ∙ map-append (λ (one : LoopNet). one.net) one.nets (item ∷ [])
-  by false is rest = ap (λ (own : Bool). if own then nets_of one else nets_over link pin (with_net link pin item loops)) is ∙ rest
+  by false is rest = ap (λ (own : Bool). if own then loop_nets one else nets_over link pin (with_net link pin item loops)) is ∙ rest
 
 over_other : (its other link pin : ℕ) → (its ≡ link → other ≡ pin → ⊥) → (item : LoopNet) (loops : List ShiftLoop) → nets_over link pin (with_net its other item loops) ≡ nets_over link pin loops
 over_other its other link pin apart item [] = ap (λ (own : Bool). if own then item.net ∷ [] else []) (other_pin its other link pin apart)
 over_other its other link pin apart item (one ∷ loops) = by (is_of its other one) refl (over_other its other link pin apart item loops) where
   by : (own : Bool) → is_of its other one ≡ own → nets_over link pin (with_net its other item loops) ≡ nets_over link pin loops
-      → nets_over link pin (if own then record one { nets = one.nets ++ item ∷ [] } ∷ loops else one ∷ with_net its other item loops) ≡ (if is_of link pin one then nets_of one else nets_over link pin loops)
+      → nets_over link pin (if own then record one { nets = one.nets ++ item ∷ [] } ∷ loops else one ∷ with_net its other item loops) ≡ (if is_of link pin one then loop_nets one else nets_over link pin loops)
   by true is rest =
       let its_pin = of_pin its other one is in
       let no : is_of link pin one ≡ false = other_pin one.link one.pin link pin (λ first second. apart (sym its_pin.0 ∙ first) (sym its_pin.1 ∙ second)) in
-      ap (λ (own : Bool). if own then map (λ (one : LoopNet). one.net) (one.nets ++ item ∷ []) else nets_over link pin loops) no ∙ sym (ap (λ (own : Bool). if own then nets_of one else nets_over link pin loops) no)
-  by false is rest = ap (λ (list : List ℕ). if is_of link pin one then nets_of one else list) rest
+      ap (λ (own : Bool). if own then map (λ (one : LoopNet). one.net) (one.nets ++ item ∷ []) else nets_over link pin loops) no ∙ sym (ap (λ (own : Bool). if own then loop_nets one else nets_over link pin loops) no)
+  by false is rest = ap (λ (list : List ℕ). if is_of link pin one then loop_nets one else list) rest
 
 over_all : (table : List ℕ) (link pin : ℕ) (actions : List Action) (loops : List ShiftLoop) → nets_over link pin (all_loops table loops actions) ≡ nets_over link pin loops ++ sent_over link pin actions
 over_all table link pin [] loops = sym (append-nil (nets_over link pin loops))
@@ -109,14 +109,14 @@ any_at link pin (own ∷ loops) zero one at first second =
     or_left (is_of link pin own) (list_any (is_of link pin) loops) (ap (is_of link pin) same ∙ same_pin one.link one.pin link pin first second)
 any_at link pin (own ∷ loops) (suc place) one at first second = or_right (is_of link pin own) (list_any (is_of link pin) loops) (any_at link pin loops place one at first second)
 
-nets_at : (loops : List ShiftLoop) → Apart loops → (place : ℕ) (one : ShiftLoop) → slice_get loops place ≡ Some one → nets_over one.link one.pin loops ≡ nets_of one
+nets_at : (loops : List ShiftLoop) → Apart loops → (place : ℕ) (one : ShiftLoop) → slice_get loops place ≡ Some one → nets_over one.link one.pin loops ≡ loop_nets one
 nets_at [] apart place one at = cc
 nets_at (first ∷ loops) apart zero one at =
     let same : first ≡ one = cc in
-    subst (λ (own : ShiftLoop). nets_over own.link own.pin (first ∷ loops) ≡ nets_of own) same (ap (λ (is : Bool). if is then nets_of first else nets_over first.link first.pin loops) (same_pin first.link first.pin first.link first.pin refl refl))
+    subst (λ (own : ShiftLoop). nets_over own.link own.pin (first ∷ loops) ≡ loop_nets own) same (ap (λ (is : Bool). if is then loop_nets first else nets_over first.link first.pin loops) (same_pin first.link first.pin first.link first.pin refl refl))
 nets_at (first ∷ loops) apart (suc place) one at =
     let no : is_of one.link one.pin first ≡ false = other_pin first.link first.pin one.link one.pin (λ link pin. true≢false (sym (any_at first.link first.pin loops place one at (sym link) (sym pin)) ∙ apart.0)) in
-    ap (λ (is : Bool). if is then nets_of first else nets_over one.link one.pin loops) no ∙ nets_at loops apart.1 place one at
+    ap (λ (is : Bool). if is then loop_nets first else nets_over one.link one.pin loops) no ∙ nets_at loops apart.1 place one at
 
 one_place : (loops : List ShiftLoop) → Apart loops → (place other : ℕ) (one two : ShiftLoop) → slice_get loops place ≡ Some one → slice_get loops other ≡ Some two → one.link ≡ two.link → one.pin ≡ two.pin → place ≡ other
 one_place [] apart place other one two at there link pin = cc

@@ -12,18 +12,18 @@ use Rattle.vw_prog.specs.declared.code.Op.{Op}
 use Rattle.vw_prog.specs.declared.code.Op.TheVariants as op
 use Rattle.vw_prog.specs.declared.shift.ShiftLoop.{ShiftLoop}
 use Rattle.vw_prog.specs.Actions.{ArePrograms, actions}
-use Rattle.vw_prog.specs.Codes.{BeginsWith, IsCode, slot_of}
-use Rattle.vw_prog.specs.Loops.{AreLoops, nets_of, sent_over}
+use Rattle.vw_prog.specs.Codes.{BeginsWithAction, IsCode, net_slot}
+use Rattle.vw_prog.specs.Loops.{AreLoops, loop_nets, sent_over}
 use Rattle.vw_prog.specs.Unfolded.{action_by, actions_from, send_of, turns_of, unfolded, wide_number}
 use Rattle.vw_prog.proofs.ShiftLoops.{other_pin, same_pin}
 
 -- ---- lists
 
 -- the net at the slot of a net
-net_there : (nets : List ℕ) (net slot : ℕ) → slot_of nets net ≡ Some slot → slice_index_or nets slot 0 ≡ net
+net_there : (nets : List ℕ) (net slot : ℕ) → net_slot nets net ≡ Some slot → slice_index_or nets slot 0 ≡ net
 net_there [] net slot is = cc
-net_there (first ∷ nets) net slot is = by (eqb first net) refl (slot_of nets net) refl is (net_there nets net) where
-  by : (same : Bool) → eqb first net ≡ same → (rest : Option ℕ) → slot_of nets net ≡ rest → (if same then Some 0 else option_map suc rest) ≡ Some slot → ((place : ℕ) → slot_of nets net ≡ Some place → slice_index_or nets place 0 ≡ net)
+net_there (first ∷ nets) net slot is = by (eqb first net) refl (net_slot nets net) refl is (net_there nets net) where
+  by : (same : Bool) → eqb first net ≡ same → (rest : Option ℕ) → net_slot nets net ≡ rest → (if same then Some 0 else option_map suc rest) ≡ Some slot → ((place : ℕ) → net_slot nets net ≡ Some place → slice_index_or nets place 0 ≡ net)
       → slice_index_or (first ∷ nets) slot 0 ≡ net
   by true test rest there at further = let zero_is : 0 ≡ slot = cc in ap (λ (place : ℕ). slice_index_or (first ∷ nets) place 0) (sym zero_is) ∙ eqb-true first net test
   by false test (Some place) there at further = let next : suc place ≡ slot = cc in ap (λ (own : ℕ). slice_index_or (first ∷ nets) own 0) (sym next) ∙ further place there
@@ -72,12 +72,12 @@ actions_are inputs code before (one ∷ ops) (next ∷ program) long each =
 
 module _ (flat : Flat) (code : Code) where
   abbrev pub Begins : List Op → List Action → Type 0
-  Begins ops program = (place : ℕ) (next : Action) → slice_get program place ≡ Some next → (one : Op) × (slice_get ops place ≡ Some one) × BeginsWith flat code next one
+  Begins ops program = (place : ℕ) (next : Action) → slice_get program place ≡ Some next → (one : Op) × (slice_get ops place ≡ Some one) × BeginsWithAction flat code next one
 
   module _ (all : List Action) (loops : AreLoops all code.loops.items) where
     -- a loop is turned by the sends over its pin
     module _ (at : ℕ) (own : ShiftLoop) (there : slice_get code.loops.items at ≡ Some own) where
-      turned : (next : Action) (one : Op) (ops : List Op) (program : List Action) → BeginsWith flat code next one → turns_of at ops ≡ length (sent_over own.link own.pin program) → turns_of at (one ∷ ops) ≡ length (sent_over own.link own.pin (next ∷ program))
+      turned : (next : Action) (one : Op) (ops : List Op) (program : List Action) → BeginsWithAction flat code next one → turns_of at ops ≡ length (sent_over own.link own.pin program) → turns_of at (one ∷ ops) ≡ length (sent_over own.link own.pin (next ∷ program))
       turned (action.Evaluate number) (op.Run first end slot) ops program begins rest = rest
       turned (action.Evaluate number) (op.Wide place) ops program begins rest = rest
       turned (action.Evaluate number) (op.Send place) ops program begins rest = absurd begins
@@ -119,12 +119,12 @@ module _ (flat : Flat) (code : Code) where
           let first = begins 0 next refl in
           let found = first.1 in
           let same : first.0 ≡ one = cc in
-          turned next one (take made ops) (take made program) (subst (BeginsWith flat code next) same first.2)
+          turned next one (take made ops) (take made program) (subst (BeginsWithAction flat code next) same first.2)
           (turns_are ops program (omega (arith, long)) (λ place later at_place. begins (suc place) later at_place) made)
 
     -- each op stands for its action
     module _ (long : length code.ops.items ≡ length all) (begins : Begins code.ops.items all) where
-      each_is : (place : ℕ) (next : Action) (one : Op) → slice_get all place ≡ Some next → BeginsWith flat code next one → action_by flat.inputs code (take place code.ops.items) one ≡ next
+      each_is : (place : ℕ) (next : Action) (one : Op) → slice_get all place ≡ Some next → BeginsWithAction flat code next one → action_by flat.inputs code (take place code.ops.items) one ≡ next
       each_is place (action.Evaluate number) (op.Run first end slot) at own =
           let its = own.3 in
           let back : slice_index_or code.nets.items slot 0 - flat.inputs ≡ number = omega (arith, net_there code.nets.items (flat.inputs + number) slot its.target) in
@@ -150,20 +150,20 @@ module _ (flat : Flat) (code : Code) where
       each_is place (action.Send link pin net) (op.Send loop) at own =
           let one = own.0 in
           let turns = turns_are loop one own.1 code.ops.items all long begins place in
-          let sent : slice_get (nets_of one) (length (sent_over one.link one.pin (take place all))) ≡ Some net =
+          let sent : slice_get (loop_nets one) (length (sent_over one.link one.pin (take place all))) ≡ Some net =
           ap (λ (nets : List ℕ). slice_get nets (length (sent_over one.link one.pin (take place all)))) (loops.nets loop one own.1)
           ∙ ap₂ (λ (link pin : ℕ). slice_get (sent_over link pin all) (length (sent_over link pin (take place all)))) own.2 own.3
           ∙ sent_there link pin net all place at in
-          let here : slice_get (nets_of one) (turns_of loop (take place code.ops.items)) ≡ Some net = ap (slice_get (nets_of one)) turns ∙ sent in
+          let here : slice_get (loop_nets one) (turns_of loop (take place code.ops.items)) ≡ Some net = ap (slice_get (loop_nets one)) turns ∙ sent in
           ap (λ (its : Option ShiftLoop). send_of its (turns_of loop (take place code.ops.items))) own.1
-          ∙ (λ i. action.Send (own.2 i) (own.3 i) (get_or_from_slice_get (nets_of one) (turns_of loop (take place code.ops.items)) net 0 here i))
+          ∙ (λ i. action.Send (own.2 i) (own.3 i) (get_or_from_slice_get (loop_nets one) (turns_of loop (take place code.ops.items)) net 0 here i))
 
       found_is : (place : ℕ) (next : Action) (one : Op) → slice_get all place ≡ Some next → slice_get code.ops.items place ≡ Some one → action_by flat.inputs code (take place code.ops.items) one ≡ next
       found_is place next one at there =
           let found = begins place next at in
           let is = found.1 in
           let same : found.0 ≡ one = cc in
-          each_is place next one at (subst (BeginsWith flat code next) same found.2)
+          each_is place next one at (subst (BeginsWithAction flat code next) same found.2)
 
       pub unfolds : unfolded flat.inputs code ≡ all
       unfolds = actions_are flat.inputs code [] code.ops.items all long found_is

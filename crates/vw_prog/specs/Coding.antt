@@ -21,7 +21,7 @@ use Rattle.vw_prog.specs.declared.owners.OwnLatch.{OwnLatch}
 use Rattle.vw_prog.specs.declared.shift.LoopNet.{LoopNet}
 use Rattle.vw_prog.specs.declared.shift.ShiftLoop.{ShiftLoop}
 use Rattle.vw_prog.specs.Actions.{action_of}
-use Rattle.vw_prog.specs.Codes.{slot_of, taken_net}
+use Rattle.vw_prog.specs.Codes.{net_slot, taken_net}
 use Rattle.vw_prog.specs.Loops.{is_of, loop_place}
 use Rattle.vw_prog.specs.SeenGates.{AreNarrowed}
 use Rattle.vw_prog.specs.Sequencer.{IsSequencer, microcycle}
@@ -34,7 +34,7 @@ no_slot = 4294967295
 
 -- a net below a count gets the next slot, where it has none
 abbrev pub named : ℕ → List ℕ → ℕ → List ℕ
-named count nets net = if nat_lt net count && not (is_some (slot_of nets net)) then nets ++ net ∷ [] else nets
+named count nets net = if nat_lt net count && not (is_some (net_slot nets net)) then nets ++ net ∷ [] else nets
 
 abbrev pub named_all : ℕ → List ℕ → List ℕ → List ℕ
 named_all count nets [] = nets
@@ -42,7 +42,7 @@ named_all count nets (net ∷ more) = named_all count (named count nets net) mor
 
 -- a table has the slot of each net, and so many places are free
 pub record IsTable (nets table : List ℕ) : Type 0 where
-  pub slots : (net : ℕ) → net < length table → slice_index_or table net 0 ≡ unwrap_or (slot_of nets net) no_slot
+  pub slots : (net : ℕ) → net < length table → slice_index_or table net 0 ≡ unwrap_or (net_slot nets net) no_slot
   pub free : length nets + count_by (λ slot. slot == no_slot) table ≡ length table
 
 -- a table without the slots of some nets
@@ -193,7 +193,7 @@ abbrev pub record_slots : Flat → ℕ → List OwnLatch → List ℕ → List �
 record_slots flat node own table = if node == 0 then map (slot_in table) flat.outputs else map (λ latch. slot_in table latch.net) own
 
 -- a code that was made for the entries and latches of a node, in a netlist with so many nets
-pub record IsMadeOf (flat : Flat) (node : ℕ) (own : List OwnLatch) (entries : List Entry) (count : ℕ) (code : Code) : Type 0 where
+pub record IsCodeOf (flat : Flat) (node : ℕ) (own : List OwnLatch) (entries : List Entry) (count : ℕ) (code : Code) : Type 0 where
   pub table : List ℕ
   pub is : IsTable code.nets.items table
   pub long : length table ≡ count

@@ -23,8 +23,8 @@ abbrev pub one_more : ℕ → ℕ
 one_more count = min (count + 1) (2 ^ 64 - 1)
 
 -- the counts with one more at a link
-abbrev pub counted : ℕ → (ℕ → ℕ) → ℕ → ℕ
-counted link counts other = if other == link then counts other + 1 else counts other
+abbrev pub counted_at : ℕ → (ℕ → ℕ) → ℕ → ℕ
+counted_at link counts other = if other == link then counts other + 1 else counts other
 
 -- the same for a count of refusals
 abbrev pub refused : ℕ → (ℕ → ℕ) → ℕ → ℕ
@@ -47,7 +47,7 @@ pub record IsExpected (ends : SeenEnds) (link : ℕ) : Type 0 where
 -- a put that is done counts a word, and one that is refused counts a refusal, and then at least as many words were sent as the
 -- link holds; where all is told, it is refused exactly where the link is full
 pub record Puts (link : ℕ) (before after : SeenEnds) (answer : Bool) : Type 0 where
-  pub ends : after ≡ (if answer then record before { sent = counted link before.sent } else record before { full = refused link before.full })
+  pub ends : after ≡ (if answer then record before { sent = counted_at link before.sent } else record before { full = refused link before.full })
   pub refused : (answer ≡ true) ⊎ (before.room link ≤ before.sent link)
   pub room : before.told ≡ true → answer ≡ nat_lt (before.sent link - before.taken link) (before.room link)
 
@@ -55,7 +55,7 @@ pub record Puts (link : ℕ) (before after : SeenEnds) (answer : Bool) : Type 0 
 -- the link is empty
 abbrev pub Takes : ℕ → SeenEnds → SeenEnds → Option Word → Type 0
 Takes link before after (Some word) =
-    (after ≡ record before { taken = counted link before.taken })
+    (after ≡ record before { taken = counted_at link before.taken })
     × (slice_get (script before.job link) (before.taken link) ≡ Some word)
     × (before.told ≡ true → before.taken link < before.sent link)
 Takes link before after None =

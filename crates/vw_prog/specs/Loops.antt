@@ -14,12 +14,12 @@ sent_over link pin (Take its other net ∷ actions) = sent_over link pin actions
 sent_over link pin (Step ∷ actions) = sent_over link pin actions
 
 -- the nets of a loop
-abbrev pub nets_of : ShiftLoop → List ℕ
-nets_of one = map (λ item. item.net) one.nets
+abbrev pub loop_nets : ShiftLoop → List ℕ
+loop_nets one = map (λ item. item.net) one.nets
 
 -- one loop for each pin, with the nets that the actions send over it
 pub record AreLoops (actions : List Action) (loops : List ShiftLoop) : Type 0 where
-  pub nets : (place : ℕ) (one : ShiftLoop) → slice_get loops place ≡ Some one → nets_of one ≡ sent_over one.link one.pin actions
+  pub nets : (place : ℕ) (one : ShiftLoop) → slice_get loops place ≡ Some one → loop_nets one ≡ sent_over one.link one.pin actions
   pub apart : (place other : ℕ) (one two : ShiftLoop) → slice_get loops place ≡ Some one → slice_get loops other ≡ Some two → one.link ≡ two.link → one.pin ≡ two.pin → place ≡ other
 
 -- whether a loop is that of a pin

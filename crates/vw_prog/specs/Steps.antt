@@ -12,7 +12,7 @@ gate_entry_of planned lead place number =
     record { moment = 3 * lead; link = 0; place = place; node = home planned net; net = net }
 
 -- each node has its own among some entries
-pub record AreDealt (nodes : ℕ) (entries : List Entry) (lists : List (List Entry)) : Type 0 where
+pub record AreOwnEntries (nodes : ℕ) (entries : List Entry) (lists : List (List Entry)) : Type 0 where
   pub count : length lists ≡ nodes
   pub each : (node : ℕ) → node < nodes → slice_index_or lists node [] ≡ entries_at node entries
 

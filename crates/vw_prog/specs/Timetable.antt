@@ -22,16 +22,16 @@ gate_entry planned place number =
     record { moment = 3 * lead planned (home planned net) net; link = 0; place = place; node = home planned net; net = net }
 
 -- the link over which a hop goes
-abbrev pub link_place : List Link → Hop → ℕ
-link_place links hop = unwrap_or (link_number links hop.from hop.to) 0
+abbrev pub link_of_hop : List Link → Hop → ℕ
+link_of_hop links hop = unwrap_or (link_number links hop.from hop.to) 0
 
 -- a word is sent by the node that a hop leaves, in the hop's microcycle
 abbrev pub sent_entry : List Link → ℕ → Hop → Entry
-sent_entry links net hop = record { moment = 3 * hop.at + 1; link = link_place links hop; place = hop.pin; node = hop.from; net = net }
+sent_entry links net hop = record { moment = 3 * hop.at + 1; link = link_of_hop links hop; place = hop.pin; node = hop.from; net = net }
 
 -- and taken by the node that the hop reaches, in the microcycle in which it arrives
 abbrev pub taken_entry : List Link → ℕ → Hop → Entry
-taken_entry links net hop = record { moment = 3 * arrival links hop + 2; link = link_place links hop; place = hop.pin; node = hop.to; net = net }
+taken_entry links net hop = record { moment = 3 * arrival links hop + 2; link = link_of_hop links hop; place = hop.pin; node = hop.to; net = net }
 
 -- those of gates at places of the order from a place on
 abbrev pub gate_entries : PlannedBoard → ℕ → List ℕ → List Entry

@@ -7,7 +7,7 @@ use Rattle.vw_prog.specs.declared.code.Op.{Op}
 use Rattle.vw_prog.specs.declared.code.Op.TheVariants as op
 use Rattle.vw_prog.specs.declared.code.WideGate.{WideGate}
 use Rattle.vw_prog.specs.declared.shift.ShiftLoop.{ShiftLoop}
-use Rattle.vw_prog.specs.Loops.{nets_of}
+use Rattle.vw_prog.specs.Loops.{loop_nets}
 
 -- how often ops turn a loop
 abbrev pub turns_of : ℕ → List Op → ℕ
@@ -19,13 +19,13 @@ turns_of place (op.Take link pin slot ∷ ops) = turns_of place ops
 turns_of place (op.Step ∷ ops) = turns_of place ops
 
 -- the net at a place of a loop, and net 0 past the end
-abbrev pub net_at : ShiftLoop → ℕ → ℕ
-net_at one place = slice_index_or (nets_of one) place 0
+abbrev pub loop_net : ShiftLoop → ℕ → ℕ
+loop_net one place = slice_index_or (loop_nets one) place 0
 
 -- the send of a loop that was turned so often
 abbrev pub send_of : Option ShiftLoop → ℕ → Action
 send_of None turns = action.Step
-send_of (Some one) turns = action.Send one.link one.pin (net_at one turns)
+send_of (Some one) turns = action.Send one.link one.pin (loop_net one turns)
 
 -- the cell number of a wide gate
 abbrev pub wide_number : Option WideGate → ℕ

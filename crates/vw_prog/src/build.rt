@@ -4,8 +4,8 @@ ghost use Rattle.std.specs.List.{All};
 ghost use Rattle.vw_plan.specs.PlannedBoard.{planned_board};
 ghost use Rattle.vw_plan.specs.Sound.{IsSound};
 ghost use Rattle.vw_leads.specs.LeadTables.{AreLeads, planned_in};
-ghost use Rattle.vw_prog.specs.Steps.{AreDealt, gate_entry_of, lists_of};
-ghost use Rattle.vw_prog.specs.Timetable.{entries, gate_entries, hop_entries, link_place, sent_entry, taken_entry, timetable, wire_entries};
+ghost use Rattle.vw_prog.specs.Steps.{AreOwnEntries, gate_entry_of, lists_of};
+ghost use Rattle.vw_prog.specs.Timetable.{entries, gate_entries, hop_entries, link_of_hop, sent_entry, taken_entry, timetable, wire_entries};
 
 use crate::entry::Entry;
 use crate::laws::leads_end_in_time;
@@ -48,7 +48,7 @@ fn list_gates(wired: &Wired, leads: &[u64], entries: &mut Vec<Entry>) -> Result<
 
 /// The number of the link over which a hop goes.
 fn link_place(links: &LinkTable, hop: &Hop) -> u32
-    ensures { result ≡ link_place links.now hop.now }
+    ensures { result ≡ link_of_hop links.now hop.now }
 {
     match links.number(hop.from(), hop.to()) {
         Some(number) => number,
@@ -150,7 +150,7 @@ pub fn timetable(alloc: Global, checked: &Checked) -> Result<Vec<Entry>, AllocEr
 
 /// So many lists without entries.
 fn no_entries(alloc: Global, nodes: u32) -> Result<Vec<Vec<Entry>>, AllocError>
-    ensures { IfOk result (λ lists. AreDealt nodes [] (lists_of lists.items)) }
+    ensures { IfOk result (λ lists. AreOwnEntries nodes [] (lists_of lists.items)) }
 {
     let mut lists = Vec::new(alloc);
     for _ in 0..nodes {
@@ -161,8 +161,8 @@ fn no_entries(alloc: Global, nodes: u32) -> Result<Vec<Vec<Entry>>, AllocError>
 
 /// Gives each node its entries.
 fn deal_entries(entries: &[Entry], lists: &mut Vec<Vec<Entry>>) -> Result<(), AllocError>
-    ensures { OnOk result ((nodes : ℕ) → AreDealt nodes [] (lists_of lists.old.items)
-        → AreDealt nodes entries.now (lists_of lists.new.items)) }
+    ensures { OnOk result ((nodes : ℕ) → AreOwnEntries nodes [] (lists_of lists.old.items)
+        → AreOwnEntries nodes entries.now (lists_of lists.new.items)) }
 {
     for entry in entries {
         let node = entry.node as usize;
@@ -175,7 +175,7 @@ fn deal_entries(entries: &[Entry], lists: &mut Vec<Vec<Entry>>) -> Result<(), Al
 
 /// The entries of each node.
 pub fn deal(alloc: Global, nodes: u32, entries: &[Entry]) -> Result<Vec<Vec<Entry>>, AllocError>
-    ensures { IfOk result (λ lists. AreDealt nodes entries.now (lists_of lists.items)) }
+    ensures { IfOk result (λ lists. AreOwnEntries nodes entries.now (lists_of lists.items)) }
 {
     let mut lists = no_entries(alloc, nodes)?;
     deal_entries(entries, &mut lists)?;

@@ -5,7 +5,7 @@ ghost use Rattle.vw_plan.specs.PlannedBoard.{planned_board};
 ghost use Rattle.vw_prog.specs.declared.code.Code.{Code};
 ghost use Rattle.vw_prog.specs.Actions.{actions};
 ghost use Rattle.vw_prog.specs.Codes.{IsCode};
-ghost use Rattle.vw_prog.specs.Coding.{IsMadeOf, IsTable, known_nets, no_slot, owned_of, record_slots, slot_in};
+ghost use Rattle.vw_prog.specs.Coding.{IsCodeOf, IsTable, known_nets, no_slot, owned_of, record_slots, slot_in};
 ghost use Rattle.vw_prog.specs.Steps.{lists_of};
 ghost use Rattle.vw_prog.specs.Timetable.{entries_at, timetable};
 
@@ -117,7 +117,7 @@ fn code_of(
     ensures long { length table.new ≡ length table.old }
     ensures is { OnOk result (IsTable [] table.new) }
     ensures made { IfOk result
-        (IsMadeOf flat.now node own.now entries.now (length table.old)) }
+        (IsCodeOf flat.now node own.now entries.now (length table.old)) }
 {
     let actions = program_of(alloc, flat.inputs(), entries)?;
     let known = known_nets(alloc, flat.inputs(), node, own, &actions)?;
@@ -160,7 +160,7 @@ fn all_codes(
     ensures count { IfOk result (λ codes. length codes.items ≡ length lists.now) }
     ensures each { IfOk result (λ codes. (node : ℕ) (code : Code)
         → slice_get codes.items node ≡ Some code
-        → IsMadeOf flat.now node (slice_index_or (owned_of owned.now) node [])
+        → IsCodeOf flat.now node (slice_index_or (owned_of owned.now) node [])
         (slice_index_or (lists_of lists.now) node []) (length table.old) code) }
 {
     let mut codes = Vec::new(alloc);

@@ -8,7 +8,7 @@ ghost use Rattle.vw_plan.specs.Sound.{IsSound};
 ghost use Rattle.vw_prog.specs.declared.action.Action.{Action};
 ghost use Rattle.vw_prog.specs.declared.action.Action.TheVariants.{Send};
 ghost use Rattle.vw_prog.specs.declared.shift.ShiftLoop.{ShiftLoop};
-ghost use Rattle.vw_prog.specs.Loops.{AreLoops, Stand, nets_of, place_after};
+ghost use Rattle.vw_prog.specs.Loops.{AreLoops, Stand, loop_nets, place_after};
 ghost use Rattle.vw_prog.specs.Due.{FindsEnds, FindsReads};
 ghost use Rattle.vw_prog.specs.Timetable.{entries_at, is_sent, is_taken, passes, taken_from, timetable};
 
@@ -50,7 +50,7 @@ pub fn loops_turn()
         (link pin net at : ℕ) (one : ShiftLoop) → AreLoops actions loops → Stand actions loops made places
         → slice_get actions made ≡ Some (Send link pin net) → slice_get loops at ≡ Some one
         → one.link ≡ link → one.pin ≡ pin
-        → slice_get (nets_of one) (slice_index_or places at 0) ≡ Some net }
+        → slice_get (loop_nets one) (slice_index_or places at 0) ≡ Some net }
     ensures turned { (actions : List Action) (loops : List ShiftLoop) (made : ℕ) (places : List ℕ)
         (link pin net at : ℕ) (one : ShiftLoop) → AreLoops actions loops → Stand actions loops made places
         → slice_get actions made ≡ Some (Send link pin net) → slice_get loops at ≡ Some one

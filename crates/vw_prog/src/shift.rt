@@ -2,7 +2,7 @@
 ghost use Rattle.std.specs.Prelude.{◌≡◌, ◌<◌, ◌++◌, ◌∷◌, ◌+◌, [], length, slice_get, Some, IfOk, OnOk};
 ghost use Rattle.vw_prog.specs.Loops.{loop_place, place_after};
 ghost use Rattle.vw_prog.specs.Coding.{with_net};
-ghost use Rattle.vw_prog.specs.Unfolded.{net_at};
+ghost use Rattle.vw_prog.specs.Unfolded.{loop_net};
 
 use std::alloc::{AllocError, Global};
 use std::marker::Model;
@@ -88,7 +88,7 @@ impl ShiftLoop {
 
     /// The net at a place, and net 0 past the end.
     pub(crate) fn net_at(&self, place: usize) -> u32
-        ensures { result ≡ net_at self.now place }
+        ensures { result ≡ loop_net self.now place }
     {
         match self.nets.get(place) {
             Some(item) => item.net,

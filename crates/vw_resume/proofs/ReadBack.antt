@@ -16,20 +16,20 @@ use Rattle.vw_resume.specs.declared.fault.StateFault.{StateFault}
 use Rattle.vw_resume.specs.declared.fault.StateFault.TheVariants.{BadText, WrongLatches, TooManyClocks, NoMemory}
 use Rattle.vw_resume.specs.declared.state.State.{State}
 use Rattle.vw_resume.specs.States.{state_text, Spells, IsBadState}
-use Rattle.vw_resume.specs.Steps.Loosely.{is_space, before_space, behind_space, bit_in, clock_in, latches_in}
+use Rattle.vw_resume.specs.Steps.Loosely.{is_space, before_space, behind_space, bits_named, clock_in, latches_in}
 
 -- ---- bits
 
-shown_again : (bits : List Bool) → flat_map bit_in (map shown bits) ≡ bits
+shown_again : (bits : List Bool) → flat_map bits_named (map shown bits) ≡ bits
 shown_again [] = refl
 shown_again (true ∷ bits) = ap (λ (rest : List Bool). true ∷ rest) (shown_again bits)
 shown_again (false ∷ bits) = ap (λ (rest : List Bool). false ∷ rest) (shown_again bits)
 
 -- the end of the line and the character of no bits name none
-bits_again : (bits : List Bool) → flat_map bit_in (bits_text bits ++ 10 ∷ []) ≡ bits
+bits_again : (bits : List Bool) → flat_map bits_named (bits_text bits ++ 10 ∷ []) ≡ bits
 bits_again [] = refl
 bits_again (bit ∷ bits) =
-    flat_map-append bit_in (map shown (bit ∷ bits)) (10 ∷ [])
+    flat_map-append bits_named (map shown (bit ∷ bits)) (10 ∷ [])
     ∙ ap (λ (front : List Bool). front ++ []) (shown_again (bit ∷ bits)) ∙ append-nil (bit ∷ bits)
 
 -- ---- the words of a spelling
@@ -53,9 +53,9 @@ module _ (clock : ℕ) (latches : List Bool) where
 
   latches_again : latches_in (state_text clock latches) ≡ latches
   latches_again =
-      ap (λ (text : List ℕ). flat_map bit_in (behind_space (behind_space text))) numbers
-      ∙ ap (λ (text : List ℕ). flat_map bit_in (behind_space text)) (cut_behind is_space (decimal clock) 32 behind_clock (decimal_without 32 (omega arith) clock) refl)
-      ∙ ap (λ (text : List ℕ). flat_map bit_in text) (cut_behind is_space (decimal (length latches)) 32 bits_word (decimal_without 32 (omega arith) (length latches)) refl)
+      ap (λ (text : List ℕ). flat_map bits_named (behind_space (behind_space text))) numbers
+      ∙ ap (λ (text : List ℕ). flat_map bits_named (behind_space text)) (cut_behind is_space (decimal clock) 32 behind_clock (decimal_without 32 (omega arith) clock) refl)
+      ∙ ap (λ (text : List ℕ). flat_map bits_named text) (cut_behind is_space (decimal (length latches)) 32 bits_word (decimal_without 32 (omega arith) (length latches)) refl)
       ∙ bits_again latches
 
 -- ---- one state

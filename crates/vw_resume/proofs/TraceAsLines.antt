@@ -12,7 +12,7 @@ use Rattle.vw_text.proofs.DecimalDigits.{decimal_without}
 use Rattle.vw_text.proofs.FirstLine.{ends_line, line_first}
 use Rattle.vw_text.proofs.FoundBytes.{HasNo}
 use Rattle.vw_text.proofs.LineTexts.{lines_text-append}
-use Rattle.vw_rows.specs.Trace.{bits_text, rows_text, lines_from, trace_text_from}
+use Rattle.vw_rows.specs.Trace.{bits_text, rows_text, trace_lines_from, trace_text_from}
 use Rattle.vw_resume.specs.Joined.{HasLines}
 
 -- ---- the lines
@@ -111,7 +111,7 @@ clocks_joined first (row ∷ outputs) [] = refl
 clocks_joined first (row ∷ outputs) (state ∷ states) =
     ap (λ (rest : List ℕ). (clock_line first row state ++ 10 ∷ []) ++ rest) (clocks_joined (first + 1) outputs states)
 
-behind_head_joined : (first : ℕ) (history : History) → lines_from first history
+behind_head_joined : (first : ℕ) (history : History) → trace_lines_from first history
     ≡ lines_text (clock_lines first history.outputs history.states ++ end_line (first + length history.outputs) history.last ∷ [])
 behind_head_joined first history =
     let last = end_line (first + length history.outputs) history.last in

@@ -2,7 +2,7 @@
 ghost use Rattle.std.specs.Prelude.{◌≡◌, ◌++◌, IfOk, OnOk, unwrap_or};
 ghost use Rattle.std.specs.List.{flat_map};
 ghost use Rattle.vw_text.specs.Number.{spelled_number};
-ghost use Rattle.vw_resume.specs.Steps.Loosely.{before_space, behind_space, bit_in, clock_in, latches_in};
+ghost use Rattle.vw_resume.specs.Steps.Loosely.{before_space, behind_space, bits_named, clock_in, latches_in};
 
 use crate::state::State;
 use bstr::ByteSlice;
@@ -33,7 +33,7 @@ fn number_or_0(word: &[u8]) -> u64
 
 /// Appends the bit that a character names, where it names one.
 fn push_bit(bits: &mut Vec<bool>, character: u8) -> Result<(), AllocError>
-    ensures { OnOk result (bits.new.items ≡ bits.old.items ++ bit_in character) }
+    ensures { OnOk result (bits.new.items ≡ bits.old.items ++ bits_named character) }
 {
     if character == b'0' {
         return Ok(bits.push(false)?);
@@ -46,7 +46,7 @@ fn push_bit(bits: &mut Vec<bool>, character: u8) -> Result<(), AllocError>
 
 /// The bits that the characters of a text name.
 fn bits_in(alloc: Global, text: &[u8]) -> Result<Bits, AllocError>
-    ensures { IfOk result (λ bits. bits ≡ flat_map bit_in text.now) }
+    ensures { IfOk result (λ bits. bits ≡ flat_map bits_named text.now) }
 {
     let mut bits = Vec::new(alloc);
     for character in text {

@@ -9,7 +9,7 @@ use Rattle.vw_rows.specs.declared.scan.Adds.{Adds}
 use Rattle.vw_rows.specs.declared.scan.Scan.{Scan}
 use Rattle.vw_rows.specs.Stimulus.{line_words, rows_added, last_row, within_run, behind, rows_of_lines}
 use Rattle.vw_rows.specs.Steps.Lines.{IsLine, GoesOnBy, IsBadBehind, EndsBy}
-use Rattle.vw_rows.specs.Steps.Scans.{count_of, rows_by, AddsToRun, IsReadSoFar}
+use Rattle.vw_rows.specs.Steps.Scans.{rows_from_line, rows_by, AddsToRun, IsReadSoFar}
 use Rattle.vw_rows.specs.Steps.Counting.{IsReadFurther, IsAtFaultWith}
 use Rattle.vw_rows.proofs.LastRows.{last_row-append, behind-behind}
 use Rattle.vw_rows.proofs.ScannedLines.{rows_from, length-rows_by, line_further, line_at_fault, first_bad}
@@ -51,7 +51,7 @@ front_taken piece front count cut long =
 -- the line has ended and is counted, and the next begins
 pub begins_next : (front : List ℕ) (first : List Bool) (base start : ℕ) (total : List ℕ → Result (List (List Bool)) StimFault) (read : List ℕ) (rows : List (List Bool)) (scan : Scan) (line : LineSoFar) (adds : Adds) (new : Scan)
     → (so : IsReadSoFar first base start total read scan rows) → IsLine (so.line ++ front) line → (added : AddsToRun (with_line scan line) adds (so.line ++ front))
-    → IsLine [] new.line → new.width ≡ scan.width → new.number ≡ scan.number + 1 → new.clocks ≡ scan.clocks + count_of adds
+    → IsLine [] new.line → new.width ≡ scan.width → new.number ≡ scan.number + 1 → new.clocks ≡ scan.clocks + rows_from_line adds
     → (next : IsReadSoFar first base start total (read ++ (front ++ 10 ∷ [])) new (rows ++ rows_by adds added.row (last_row first rows))) × (length next.line ≡ 0)
 begins_next front first base start total read rows scan line adds new so is added fresh width number clocks =
     let before = last_row first rows in
@@ -64,8 +64,8 @@ begins_next front first base start total read rows scan line adds new so is adde
     ∙ so.left (front ++ 10 ∷ rest)
     ∙ ap (λ (text : List ℕ). behind rows (rows_from scan before text)) (sym (append_assoc so.line front (10 ∷ rest)))
     ∙ ap (behind rows) (line_further (with_line scan line) before adds (so.line ++ front) rest added is.unended)
-    ∙ behind-behind rows by (rows_of_lines scan.width (scan.number + 1) (scan.clocks + count_of adds) (last_row before by) (text_lines rest))
-    ∙ ap (λ (row : List Bool). behind (rows ++ by) (rows_of_lines scan.width (scan.number + 1) (scan.clocks + count_of adds) row (text_lines rest))) (sym (last_row-append first rows by))
+    ∙ behind-behind rows by (rows_of_lines scan.width (scan.number + 1) (scan.clocks + rows_from_line adds) (last_row before by) (text_lines rest))
+    ∙ ap (λ (row : List Bool). behind (rows ++ by) (rows_of_lines scan.width (scan.number + 1) (scan.clocks + rows_from_line adds) row (text_lines rest))) (sym (last_row-append first rows by))
     ∙ sym (ap (λ (n : ℕ). behind (rows ++ by) (rows_of_lines n new.number new.clocks (last_row first (rows ++ by)) (text_lines rest))) width
     ∙ ap₂ (λ (n m : ℕ). behind (rows ++ by) (rows_of_lines scan.width n m (last_row first (rows ++ by)) (text_lines rest))) number clocks) in (
       record {
@@ -88,7 +88,7 @@ begins_next front first base start total read rows scan line adds new so is adde
 -- the same behind a piece
 pub ends_and_begins : (piece : List ℕ) (count : ℕ) (scan : Scan) (line : LineSoFar) (adds : Adds) (new : Scan) → EndsBy piece count scan.line line
     → ((whole : List ℕ) → IsLine whole line → AddsToRun (with_line scan line) adds whole)
-    → IsLine [] new.line → new.width ≡ scan.width → new.number ≡ scan.number + 1 → new.clocks ≡ scan.clocks + count_of adds → IsReadFurther (take count piece) scan new
+    → IsLine [] new.line → new.width ≡ scan.width → new.number ≡ scan.number + 1 → new.clocks ≡ scan.clocks + rows_from_line adds → IsReadFurther (take count piece) scan new
 ends_and_begins piece count scan line adds new ends adds_rows fresh width number clocks first base start total read rows so short =
     let is = ends.goes.line so.line so.is in
     let added = adds_rows (so.line ++ ends.front) is in

@@ -12,7 +12,7 @@ use Rattle.vw_rows.specs.declared.scan.Adds.{Adds}
 use Rattle.vw_rows.specs.declared.scan.Scan.{Scan}
 use Rattle.vw_rows.specs.Stimulus.{line_words, rows_added, last_row, within_run, behind, rows_of_lines}
 use Rattle.vw_rows.specs.Steps.Lines.{IsLine}
-use Rattle.vw_rows.specs.Steps.Scans.{count_of, rows_by, AddsToRun, IsReadSoFar}
+use Rattle.vw_rows.specs.Steps.Scans.{rows_from_line, rows_by, AddsToRun, IsReadSoFar}
 use Rattle.vw_rows.specs.Steps.Counting.{IsReadFurther, IsAtFaultWith, rows_in, HasRows, HasFault}
 use Rattle.vw_rows.proofs.ScannedLines.{rows_from, last_line, last_line_at_fault, length-rows_by}
 
@@ -79,7 +79,7 @@ whole_read told width at scan buffer bytes count room none told_is fills counted
 -- the rows of the whole text
 pub rows_counted : (told : Told) (width at count clocks : ℕ) (scan : Scan) (adds : Adds) (buffer : List ℕ) → 0 < length buffer → count ≡ 0 → at ≤ 1073741824 → scan.clocks ≤ 4294967295
     → ((bytes : List ℕ) → told ≡ held bytes → Fills bytes at buffer count) → (told ≡ absent → ⊥)
-    → ((line : List ℕ) → IsLine line scan.line → AddsToRun scan adds line) → clocks ≡ scan.clocks + count_of adds → IsCounted told width at scan → OfText told (λ text. HasRows width text clocks)
+    → ((line : List ℕ) → IsLine line scan.line → AddsToRun scan adds line) → clocks ≡ scan.clocks + rows_from_line adds → IsCounted told width at scan → OfText told (λ text. HasRows width text clocks)
 rows_counted told width at count clocks scan adds buffer room none limit few fills there ends sum counted =
     OfText-from_cases told (λ text. HasRows width text clocks) counted.read has there
     (λ bytes told_is. subst (λ (text : List ℕ). HasRows width text clocks) (whole_read told width at scan buffer bytes count room none told_is (fills bytes told_is) counted) has)

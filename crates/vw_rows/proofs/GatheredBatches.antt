@@ -8,6 +8,8 @@ use Rattle.vw_rows.specs.declared.line_so_far.LineSoFar.{LineSoFar}
 use Rattle.vw_rows.specs.declared.scan.Adds.{Adds}
 use Rattle.vw_rows.specs.declared.scan.Adds.TheVariants.{Nothing, Row, Copies}
 use Rattle.vw_rows.specs.declared.batch.Batch.{Batch}
+use Rattle.vw_rows.specs.declared.fault.StimFault.TheVariants.{BadLine}
+use Rattle.vw_rows.specs.Standing.{IsFoundIn}
 use Rattle.vw_rows.specs.Stimulus.{last_row, line_words, rows_added, within_run, behind, rows_of_lines}
 use Rattle.vw_rows.specs.Steps.Lines.{IsLine, EndsBy, TakesAll}
 use Rattle.vw_rows.specs.Steps.Scans.{rows_by, FitsWidth, AddsToRun, IsReadSoFar}
@@ -183,8 +185,8 @@ at_end before base start origin total read old new g apart counted whole =
     }
 
 -- where no copy is owed, all rows are those of the batch
-pub rows_alone : (before : List Bool) (batch : Batch) → batch.owed ≡ 0 → all_rows before batch ≡ batch.rows.items
-rows_alone before batch none = ap (λ (n : ℕ). batch.rows.items ++ replicate n (last_row before batch.rows.items)) none ∙ append-nil batch.rows.items
+pub rows_alone : (before : List Bool) (batch : Batch) → batch.owed ≡ 0 → all_rows before batch ≡ batch.rows
+rows_alone before batch none = ap (λ (n : ℕ). batch.rows ++ replicate n (last_row before batch.rows)) none ∙ append-nil batch.rows
 
 -- a text that ends where a line would begin
 pub ends_before_line : (before : List Bool) (base start origin : ℕ) (total : List ℕ → Result (List (List Bool)) StimFault) (read : List ℕ) (old : Batch) → IsGathered before base start origin total read old → old.at ≡ old.read → total read ≡ Ok (all_rows before old)
@@ -202,10 +204,41 @@ ends_before_line before base start origin total read old g same =
 ok_same : (one two : List (List Bool)) → ◌≡◌ {A = Result (List (List Bool)) StimFault} (Ok one) (Ok two) → one ≡ two
 ok_same one two e = cc
 
-pub too_few : (total : List ℕ → Result (List (List Bool)) StimFault) (read : List ℕ) (before : List Bool) (batch : Batch) (all : List (List Bool)) (wanted : ℕ) → total read ≡ Ok (all_rows before batch) → total read ≡ Ok all → batch.owed ≡ 0 → length batch.rows.items < wanted → length all < wanted
+pub too_few : (total : List ℕ → Result (List (List Bool)) StimFault) (read : List ℕ) (before : List Bool) (batch : Batch) (all : List (List Bool)) (wanted : ℕ) → total read ≡ Ok (all_rows before batch) → total read ≡ Ok all → batch.owed ≡ 0 → length batch.rows < wanted → length all < wanted
 too_few total read before batch all wanted is given none few =
-    let same : all ≡ batch.rows.items = ok_same all (all_rows before batch) (sym given ∙ is) ∙ rows_alone before batch none in
+    let same : all ≡ batch.rows = ok_same all (all_rows before batch) (sym given ∙ is) ∙ rows_alone before batch none in
     omega (ap (λ (rs : List (List Bool)). length rs) same, few, arith)
+
+-- where copies aren't owed, and rows are missing, the line behind the last is bad
+pub none_behind : (before : List Bool) (batch : Batch) (total : List ℕ → Result (List (List Bool)) StimFault) (read : List ℕ) (wanted start : ℕ) → total read ≡ Ok (all_rows before batch) → batch.owed ≡ 0 → length batch.rows < wanted → batch.scan.number ≡ start + length (text_lines read)
+    → IsFoundIn wanted start read (BadLine batch.scan.number) (total read)
+none_behind before batch total read wanted start is none few number =
+    subst (λ (said : Result (List (List Bool)) StimFault). IsFoundIn wanted start read (BadLine batch.scan.number) said) (sym is)
+    (omega (ap (λ (rs : List (List Bool)). length rs) (rows_alone before batch none), few, arith), ap BadLine number)
+
+-- the number of the line behind the last, which nothing ends
+pub number_ended : (before : List Bool) (base start origin : ℕ) (total : List ℕ → Result (List (List Bool)) StimFault) (read : List ℕ) (old new : Batch) → IsGathered before base start origin total read old → old.at ≢ old.read
+    → EndsCounted before old new → new.scan.number ≡ start + length (text_lines read)
+number_ended before base start origin total read old new g apart counted =
+    let so = g.so_far in
+    let some : 0 < length so.line = omega (g.place, apart, arith) in
+    let lines : text_lines read ≡ so.lines ++ so.line ∷ [] =
+    ap text_lines (sym (append-nil read)) ∙ so.place [] ∙ ap (λ (text : List ℕ). so.lines ++ text_lines text) (append-nil so.line)
+    ∙ ap (λ (ls : List (List ℕ)). so.lines ++ ls) (line_alone so.line some so.is.unended) in
+    omega (counted.number, so.number, ap (λ (ls : List (List ℕ)). length ls) lines, length-append so.lines (so.line ∷ []), arith)
+
+-- the number of the line that would begin where the text ends
+pub number_before_line : (before : List Bool) (base start origin : ℕ) (total : List ℕ → Result (List (List Bool)) StimFault) (read : List ℕ) (old : Batch) → IsGathered before base start origin total read old → old.at ≡ old.read → old.scan.number ≡ start + length (text_lines read)
+number_before_line before base start origin total read old g same =
+    let so = g.so_far in
+    let none : so.line ≡ [] = by so.line (omega (g.place, same, arith)) in
+    let lines : text_lines read ≡ so.lines ++ [] =
+    ap text_lines (sym (append-nil read)) ∙ so.place [] ∙ ap (λ (text : List ℕ). so.lines ++ text_lines text) (append-nil so.line ∙ none) in
+    omega (so.number, ap (λ (ls : List (List ℕ)). length ls) (lines ∙ append-nil so.lines), arith)
+  where
+    by : (list : List ℕ) → length list ≡ 0 → list ≡ []
+    by [] e = refl
+    by (b ∷ bs) e = absurd (omega (e, arith))
 
 -- the last line is at fault
 pub end_at_fault : (before : List Bool) (base start origin : ℕ) (total : List ℕ → Result (List (List Bool)) StimFault) (read : List ℕ) (old : Batch) (fault : StimFault) → IsGathered before base start origin total read old → old.scan.clocks ≤ 4294967295

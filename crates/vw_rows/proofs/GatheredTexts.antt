@@ -8,6 +8,7 @@ use Rattle.vw_text.specs.Physical.{text_lines}
 use Rattle.vw_rows.specs.declared.fault.StimFault.{StimFault}
 use Rattle.vw_rows.specs.declared.batch.Batch.{Batch}
 use Rattle.vw_rows.specs.Stimulus.{last_row, behind}
+use Rattle.vw_rows.specs.Standing.{IsFoundIn}
 use Rattle.vw_rows.specs.Steps.Batches.{all_rows, IsGathered, GathersFurther, GathersFront, FailsWith, IsAtLine, EndsTextOf, GathersOf}
 use Rattle.vw_rows.proofs.ScannedLines.{rows_from}
 use Rattle.vw_rows.proofs.GatheredBatches.{gathers_nothing, gathers_on, no_rows}
@@ -61,6 +62,13 @@ none_left text buffer from count fills room none = drop_all from text (no_less f
     no_less : (m n : ℕ) → (m < n → ⊥) → n ≤ m
     no_less m n not_less = omega (arith, not_less)
 
+-- where bytes have rows and no fault in them, these are fewer than are wanted
+few_found : (wanted number : ℕ) (bytes : List ℕ) (fault : StimFault) (said : Result (List (List Bool)) StimFault) (all : List (List Bool)) → IsFoundIn wanted number bytes fault said → said ≡ Ok all → length all < wanted
+few_found wanted number bytes fault (Err other) all found is = absurd (cc)
+few_found wanted number bytes fault (Ok rows) all found is =
+    let same : rows ≡ all = cc in
+    omega (found.0, ap (λ (rs : List (List Bool)). length rs) same, arith)
+
 -- the text has ended
 pub finish_gathers : (told : Told) (before : List Bool) (old mid new : Batch) (buffer : List ℕ) (count : ℕ) (result : Result (Unit {0}) StimFault) → 0 < length buffer → count ≡ 0 → mid.wanted ≡ old.wanted → mid.read ≤ 1073741824
     → ((text : List ℕ) → told ≡ held text → Fills text mid.read buffer count) → IsReadOn told before old mid → EndsTextOf before mid new result → GathersOf told before old new result
@@ -73,25 +81,35 @@ finish_gathers told before old mid new buffer count (Ok u) room none wanted limi
           sym (append-nil bytes) ∙ ap (λ (bs : List ℕ). bytes ++ bs) (sym (none_left text buffer mid.read count (fills text told_is) room none)) ∙ so_far.front text told_is inside in
           subst (λ (bs : List ℕ). IsAtLine before start old.read total bs new) whole r.1,
     )
-finish_gathers told before old mid new buffer count (Err fault) room none wanted limit fills so_far ends = λ of_text base start total g text told_is inside all is.
+finish_gathers told before old mid new buffer count (Err fault) room none wanted limit fills so_far ends = λ of_text base start total g.
     let bytes = so_far.bytes in
-    let whole : bytes ≡ drop old.read text =
-    sym (append-nil bytes) ∙ ap (λ (bs : List ℕ). bytes ++ bs) (sym (none_left text buffer mid.read count (fills text told_is) room none)) ∙ so_far.front text told_is inside in
-    let few = ends of_text base start old.read total bytes (so_far.gathers base start old.read total [] g (omega (so_far.read, limit, arith))) (omega (so_far.read, limit, arith)) all (ap total whole ∙ is) in
-    omega (few, wanted, arith)
+    let found = ends of_text base start old.read total bytes (so_far.gathers base start old.read total [] g (omega (so_far.read, limit, arith))) (omega (so_far.read, limit, arith)) in (
+      (bytes, subst (λ (n : ℕ). IsFoundIn n start bytes fault (total bytes)) wanted found),
+      λ text told_is inside all is.
+          let whole : bytes ≡ drop old.read text =
+          sym (append-nil bytes) ∙ ap (λ (bs : List ℕ). bytes ++ bs) (sym (none_left text buffer mid.read count (fills text told_is) room none)) ∙ so_far.front text told_is inside in
+          omega (few_found mid.wanted start bytes fault (total bytes) all found (ap total whole ∙ is), wanted, arith),
+    )
 
 -- a piece is at fault
 pub take_fails : (told : Told) (before : List Bool) (old mid : Batch) (buffer piece : List ℕ) (count : ℕ) (fault : StimFault) → mid.read + count ≤ 1073741824 → count ≤ length buffer
     → ((text : List ℕ) → told ≡ held text → Fills text mid.read buffer count) → piece ≡ take count buffer → IsReadOn told before old mid → FailsWith before piece mid fault
     → (base start : ℕ) (total : List ℕ → Result (List (List Bool)) StimFault) → IsGathered before base start old.read total [] old
-    → (text : List ℕ) → told ≡ held text → old.read ≤ length text → (all : List (List Bool)) → total (drop old.read text) ≡ Ok all → length all < old.wanted
-take_fails told before old mid buffer piece count fault limit within fills is so_far fails base start total g text told_is inside all given =
+    → ((bytes : List ℕ) × IsFoundIn old.wanted start bytes fault (total bytes))
+    × ((text : List ℕ) → told ≡ held text → old.read ≤ length text → (all : List (List Bool)) → total (drop old.read text) ≡ Ok all → length all < old.wanted)
+take_fails told before old mid buffer piece count fault limit within fills is so_far fails base start total g =
     let bytes = so_far.bytes in
-    let there = piece_there text buffer piece mid.read count (fills text told_is) is in
-    let rest = drop (mid.read + count) text in
-    let whole : bytes ++ (piece ++ rest) ≡ drop old.read text = ap (λ (bs : List ℕ). bytes ++ bs) there.0 ∙ so_far.front text told_is inside in
     let gathered = so_far.gathers base start old.read total [] g (omega (so_far.read, limit, arith)) in
-    absurd (no_rows total (drop old.read text) fault all (sym (ap total whole) ∙ fails base start old.read total bytes gathered (omega (so_far.read, limit, there.1, arith)) rest) given)
+    let long : length piece ≡ count = ap (λ (bs : List ℕ). length bs) is ∙ length-take-le count buffer within in
+    let failed = fails base start old.read total bytes gathered (omega (so_far.read, limit, long, arith)) in
+    let read = bytes ++ (piece ++ []) in (
+      (read, subst (λ (said : Result (List (List Bool)) StimFault). IsFoundIn old.wanted start read fault said) (sym (failed [])) refl),
+      λ text told_is inside all given.
+          let there = piece_there text buffer piece mid.read count (fills text told_is) is in
+          let rest = drop (mid.read + count) text in
+          let whole : bytes ++ (piece ++ rest) ≡ drop old.read text = ap (λ (bs : List ℕ). bytes ++ bs) there.0 ∙ so_far.front text told_is inside in
+          absurd (no_rows total (drop old.read text) fault all (sym (ap total whole) ∙ failed rest) given),
+    )
 
 -- as many rows as are wanted
 pub settled_gathers : (told : Told) (before : List Bool) (old mid : Batch) → IsReadOn told before old mid → mid.at ≡ mid.read → mid.read ≤ 1073741824 → GathersOf told before old mid (Ok tt)
@@ -127,19 +145,19 @@ settled_gathers told before old mid so_far settled limit base start total g =
 
 -- how much is left to read
 abbrev pub still_to_read : Batch → ℕ
-still_to_read batch = cond (nat_lt (length batch.rows.items) batch.wanted) (1073741825 - batch.read) 0
+still_to_read batch = cond (nat_lt (length batch.rows) batch.wanted) (1073741825 - batch.read) 0
 
-pub less_to_read : (old new : Batch) → length old.rows.items < old.wanted → old.read ≤ 1073741824 → (length new.rows.items < new.wanted → old.read < new.read) → still_to_read new < still_to_read old
-less_to_read old new missing limit further = by (nat_lt (length new.rows.items) new.wanted) refl
+pub less_to_read : (old new : Batch) → length old.rows < old.wanted → old.read ≤ 1073741824 → (length new.rows < new.wanted → old.read < new.read) → still_to_read new < still_to_read old
+less_to_read old new missing limit further = by (nat_lt (length new.rows) new.wanted) refl
   where
     was : still_to_read old ≡ 1073741825 - old.read
-    was = cond-true _ _ _ (lt-ltb (length old.rows.items) old.wanted missing)
+    was = cond-true _ _ _ (lt-ltb (length old.rows) old.wanted missing)
 
-    by : (more : Bool) → nat_lt (length new.rows.items) new.wanted ≡ more → cond more (1073741825 - new.read) 0 < still_to_read old
-    by true e = omega (was, further (ltb-true (length new.rows.items) new.wanted e), limit, arith)
+    by : (more : Bool) → nat_lt (length new.rows) new.wanted ≡ more → cond more (1073741825 - new.read) 0 < still_to_read old
+    by true e = omega (was, further (ltb-true (length new.rows) new.wanted e), limit, arith)
     by false e = omega (was, limit, arith)
 
 -- a piece of which all was read, where rows are missing still
-pub piece_read : (before : List Bool) (piece : List ℕ) (old new : Batch) → 0 < length piece → GathersFront before piece old new → length new.rows.items < new.wanted → old.read < new.read
+pub piece_read : (before : List Bool) (piece : List ℕ) (old new : Batch) → 0 < length piece → GathersFront before piece old new → length new.rows < new.wanted → old.read < new.read
 piece_read before piece old new some front missing =
     omega (some, front.read, ap (λ (bs : List ℕ). length bs) (front.cut ∙ ap (λ (bs : List ℕ). front.gone ++ bs) (front.whole missing) ∙ append-nil front.gone), arith)

@@ -16,7 +16,7 @@ use Rattle.vw_rows.specs.declared.line_so_far.LineSoFar.{LineSoFar}
 use Rattle.vw_rows.specs.declared.said.Said.{Said}
 use Rattle.vw_rows.specs.declared.said.Said.TheVariants.{Nothing, Bits, Dash, Row, Letters, Hold, Number, Times}
 use Rattle.vw_rows.specs.Stimulus.{line_words}
-use Rattle.vw_rows.specs.Steps.Saying.{AreBad, IsSolid, IsSaid, row_with, counted, GoesOn, EndsWord, TakesByte}
+use Rattle.vw_rows.specs.Steps.Saying.{AreBad, IsSolid, IsSaid, row_with, counted_to_limit, GoesOn, EndsWord, TakesByte}
 use Rattle.vw_rows.specs.Steps.Lines.{EndsBehind, bits_said, bits_kept, IsUnended, IsEndOf, IsLine, GoesOnBy, GoesOnByFront, BeginsBad, IsBadBehind, EndsBy, TakesAll}
 use Rattle.vw_rows.proofs.SaidWords.{part_ended, bit}
 
@@ -270,7 +270,7 @@ bits_solid (b ∷ bs) are =
 
 -- a word of bits that begins or goes on with further bits
 said_run : (said : Said) (before longer : ℕ) (done : List (List ℕ)) (part bytes : List ℕ) (row : List Bool) → bits_said said ≡ Some before → IsSaid said done part row
-    → list_all bit bytes ≡ true → 0 < length bytes → longer ≡ counted (before + length bytes) → IsSaid (Bits longer) done (part ++ bytes) (row ++ map (λ b. b == 49) bytes)
+    → list_all bit bytes ≡ true → 0 < length bytes → longer ≡ counted_to_limit (before + length bytes) → IsSaid (Bits longer) done (part ++ bytes) (row ++ map (λ b. b == 49) bytes)
 said_run Nothing before longer done part bytes row is said are some long =
     let zero_ : before ≡ 0 = (let e : Some 0 ≡ Some before = is in cc) in
     let none = said.1 in
@@ -295,7 +295,7 @@ said_run Hold before longer done part bytes row is said are some long = absurd (
 said_run (Number n) before longer done part bytes row is said are some long = absurd (cc)
 said_run (Times n) before longer done part bytes row is said are some long = absurd (cc)
 
-pub run_taken : (old : LineSoFar) (bits : Vec Bool) (before longer : ℕ) (bytes : List ℕ) → bits_said old.said ≡ Some before → longer ≡ counted (before + length bytes) → list_all bit bytes ≡ true → 0 < length bytes
+pub run_taken : (old : LineSoFar) (bits : Vec Bool) (before longer : ℕ) (bytes : List ℕ) → bits_said old.said ≡ Some before → longer ≡ counted_to_limit (before + length bytes) → list_all bit bytes ≡ true → 0 < length bytes
     → bits.items ≡ bits_kept old.kept (Bits longer) bytes old.bits.items → old.commented ≡ false → GoesOnBy bytes old (with_said old (Bits longer) bits)
 run_taken old bits before longer bytes so_far long are some same plain = record { line = goes; kept = refl }
   where

@@ -12,10 +12,10 @@ use Rattle.vw_rows.specs.declared.scan.Scan.{Scan}
 use Rattle.vw_rows.specs.declared.batch.Batch.{Batch}
 use Rattle.vw_rows.specs.declared.stimulus.Stimulus.{Stimulus}
 use Rattle.vw_rows.specs.Stimulus.{last_row, behind, rows_of_lines, stimulus_rows, is_text_fault}
-use Rattle.vw_rows.specs.Standing.{StandsIn}
+use Rattle.vw_rows.specs.Standing.{StandsIn, rows_left, HasNoNext, IsFoundIn}
 use Rattle.vw_rows.specs.Steps.Lines.{IsLine}
-use Rattle.vw_rows.specs.Steps.Batches.{all_rows, GivesCopies, IsFit, IsGathered, HasItsRows, IsAtLine, GathersOf}
-use Rattle.vw_rows.specs.Steps.NextRows.{rows_left, IsNext}
+use Rattle.vw_rows.specs.Steps.Batches.{all_rows, GivesCopies, HasFitNumbers, IsGathered, HasItsRows, IsAtLine, GathersOf}
+use Rattle.vw_rows.specs.Steps.NextRows.{IsNext}
 use Rattle.vw_rows.proofs.LastRows.{last_row-same, last_row-copies, behind-behind}
 
 -- a text that is accepted isn't too large
@@ -28,7 +28,7 @@ accepted_short width text rows is = by (nat_lt 1073741824 (length text)) refl
 
 -- a batch of which nothing was gathered, but for copies that are owed
 pub gathered_at_start : (stimulus : Stimulus) (old new : Batch) → IsLine [] old.scan.line → old.scan.width ≡ stimulus.width → old.scan.number ≡ stimulus.line → old.scan.clocks ≡ stimulus.done + stimulus.owed → old.at ≡ stimulus.at → old.read ≡ stimulus.at
-    → old.rows.items ≡ [] → old.owed ≡ stimulus.owed → length stimulus.before ≡ stimulus.width → GivesCopies stimulus.before old new → IsGathered stimulus.before stimulus.done stimulus.line stimulus.at (rows_left stimulus) [] new
+    → old.rows ≡ [] → old.owed ≡ stimulus.owed → length stimulus.before ≡ stimulus.width → GivesCopies stimulus.before old new → IsGathered stimulus.before stimulus.done stimulus.line stimulus.at (rows_left stimulus) [] new
 gathered_at_start stimulus old new fresh width number clocks at read none owed wide gives =
     let before = stimulus.before in
     let copies = replicate stimulus.owed before in
@@ -71,11 +71,11 @@ front_of rows all (Ok more) is =
 front_of rows all (Err fault) is = absurd (let e : ◌≡◌ {A = Result (List (List Bool)) StimFault} (Err fault) (Ok all) = is in cc)
 
 -- what stands behind the rows of a batch
-rows_behind : (stimulus : Stimulus) (text : List ℕ) (batch : Batch) → (stands : StandsIn stimulus text) → (at : IsAtLine stimulus.before stimulus.line stimulus.at (rows_left stimulus) (drop stimulus.at text) batch) → (last : List Bool) → last ≡ last_row stimulus.before batch.rows.items
-    → behind batch.rows.items (behind (replicate batch.owed last) (rows_of_lines batch.scan.width batch.scan.number batch.scan.clocks last (text_lines (drop at.at (drop stimulus.at text))))) ≡ Ok (drop stimulus.done stands.rows)
+rows_behind : (stimulus : Stimulus) (text : List ℕ) (batch : Batch) → (stands : StandsIn stimulus text) → (at : IsAtLine stimulus.before stimulus.line stimulus.at (rows_left stimulus) (drop stimulus.at text) batch) → (last : List Bool) → last ≡ last_row stimulus.before batch.rows
+    → behind batch.rows (behind (replicate batch.owed last) (rows_of_lines batch.scan.width batch.scan.number batch.scan.clocks last (text_lines (drop at.at (drop stimulus.at text))))) ≡ Ok (drop stimulus.done stands.rows)
 rows_behind stimulus text batch stands at last is =
     let before = stimulus.before in
-    let rows = batch.rows.items in
+    let rows = batch.rows in
     let copies = last_row-copies before rows batch.owed in
     behind-behind rows (replicate batch.owed last) (rows_of_lines batch.scan.width batch.scan.number batch.scan.clocks last (text_lines (drop at.at (drop stimulus.at text))))
     ∙ ap (λ (row : List Bool). behind (rows ++ replicate batch.owed row) (rows_of_lines batch.scan.width batch.scan.number batch.scan.clocks row (text_lines (drop at.at (drop stimulus.at text))))) is
@@ -84,21 +84,21 @@ rows_behind stimulus text batch stands at last is =
 
 -- the rows of a batch are the next ones
 pub rows_next : (told : Told) (stimulus : Stimulus) (text : List ℕ) (all : List (List Bool)) (batch : Batch) (wanted most : ℕ) → told ≡ held text → StandsIn stimulus text → stimulus_rows stimulus.width text ≡ Ok all → wanted ≡ min most (stimulus.clocks - stimulus.done) → IsNext told wanted stimulus batch
-    → batch.rows.items ≡ take most (drop stimulus.done all)
+    → batch.rows ≡ take most (drop stimulus.done all)
 rows_next told stimulus text all batch wanted most told_is stands given count next =
     let at = next.stands text told_is in
     let rest = drop stimulus.done stands.rows in
     let same : stands.rows ≡ all = (let e : ◌≡◌ {A = Result (List (List Bool)) StimFault} (Ok stands.rows) (Ok all) = sym stands.accepted ∙ given in cc) in
-    let front = front_of batch.rows.items rest _ (rows_behind stimulus text batch stands at (last_row stimulus.before batch.rows.items) refl) in
-    let long : length batch.rows.items ≡ min most (length rest) = next.full ∙ count ∙ ap (λ (n : ℕ). min most n) (sym (count_left stimulus text stands)) in
+    let front = front_of batch.rows rest _ (rows_behind stimulus text batch stands at (last_row stimulus.before batch.rows) refl) in
+    let long : length batch.rows ≡ min most (length rest) = next.full ∙ count ∙ ap (λ (n : ℕ). min most n) (sym (count_left stimulus text stands)) in
     front.0 ∙ ap (λ (n : ℕ). take n rest) long ∙ take_min most rest ∙ ap (λ (rows : List (List Bool)). take most (drop stimulus.done rows)) same
 
 -- the stimulus behind a batch
 pub stands_behind : (told : Told) (stimulus new : Stimulus) (text : List ℕ) (batch : Batch) (wanted : ℕ) → told ≡ held text → StandsIn stimulus text → IsNext told wanted stimulus batch → batch.scan.width ≡ stimulus.width
-    → new.width ≡ stimulus.width → new.clocks ≡ stimulus.clocks → new.done ≡ stimulus.done + wanted → new.at ≡ batch.at → new.line ≡ batch.scan.number → new.before ≡ last_row stimulus.before batch.rows.items → new.owed ≡ batch.owed → StandsIn new text
+    → new.width ≡ stimulus.width → new.clocks ≡ stimulus.clocks → new.done ≡ stimulus.done + wanted → new.at ≡ batch.at → new.line ≡ batch.scan.number → new.before ≡ last_row stimulus.before batch.rows → new.owed ≡ batch.owed → StandsIn new text
 stands_behind told stimulus new text batch wanted told_is stands next wide width clocks done at line before owed =
     let there = next.stands text told_is in
-    let rows = batch.rows.items in
+    let rows = batch.rows in
     let place : drop new.at text ≡ drop there.at (drop stimulus.at text) = ap (λ (n : ℕ). drop n text) (omega (at, there.is, arith)) ∙ sym (drop-drop there.at stimulus.at text) in
     let front = front_of rows (drop stimulus.done stands.rows) _ (rows_behind stimulus text batch stands there new.before before) in
     let sum : new.done + new.owed ≡ batch.scan.clocks =
@@ -131,7 +131,7 @@ stands_behind told stimulus new text batch wanted told_is stands next wide width
 
 -- what was gathered from the place of a stimulus on is next
 pub gathered_next : (told : Told) (stimulus : Stimulus) (wanted : ℕ) (mid new : Batch) → IsGathered stimulus.before stimulus.done stimulus.line stimulus.at (rows_left stimulus) [] mid → mid.read ≡ stimulus.at → GathersOf told stimulus.before mid new (Ok tt)
-    → IsFit new → length new.rows.items ≡ wanted → ((text : List ℕ) → told ≡ held text → StandsIn stimulus text) → IsNext told wanted stimulus new
+    → HasFitNumbers new → length new.rows ≡ wanted → ((text : List ℕ) → told ≡ held text → StandsIn stimulus text) → IsNext told wanted stimulus new
 gathered_next told stimulus wanted mid new gathered read gathers fit full stands =
     let r = gathers stimulus.done stimulus.line (rows_left stimulus) (subst (λ (n : ℕ). IsGathered stimulus.before stimulus.done stimulus.line n (rows_left stimulus) [] mid) (sym read) gathered) in
     record {
@@ -142,20 +142,25 @@ gathered_next told stimulus wanted mid new gathered read gathers fit full stands
           (r.1 text told_is (omega (read, (stands text told_is).inside, arith)));
     }
 
--- a text that is told is at no fault
+-- a fault lies in bytes that were read, and a text that is told has none
 pub never_fails : (told : Told) (stimulus : Stimulus) (wanted : ℕ) (mid new : Batch) (fault : StimFault) → IsGathered stimulus.before stimulus.done stimulus.line stimulus.at (rows_left stimulus) [] mid → mid.read ≡ stimulus.at → mid.wanted ≡ wanted
-    → GathersOf told stimulus.before mid new (Err fault) → stimulus.done + wanted ≤ stimulus.clocks → ((text : List ℕ) → told ≡ held text → StandsIn stimulus text) → is_text_fault fault ≡ true → (text : List ℕ) → told ≡ held text → ⊥
-never_fails told stimulus wanted mid new fault gathered read same gathers few stands of_text text told_is =
-    let there = stands text told_is in
+    → GathersOf told stimulus.before mid new (Err fault) → stimulus.done + wanted ≤ stimulus.clocks → ((text : List ℕ) → told ≡ held text → StandsIn stimulus text) → is_text_fault fault ≡ true → HasNoNext wanted stimulus fault × ((text : List ℕ) → told ≡ held text → ⊥)
+never_fails told stimulus wanted mid new fault gathered read same gathers few stands of_text =
     let origin = subst (λ (n : ℕ). IsGathered stimulus.before stimulus.done stimulus.line n (rows_left stimulus) [] mid) (sym read) gathered in
-    let left : rows_left stimulus (drop mid.read text) ≡ Ok (drop stimulus.done there.rows) = ap (λ (n : ℕ). rows_left stimulus (drop n text)) read ∙ there.left in
-    let missing = gathers of_text stimulus.done stimulus.line (rows_left stimulus) origin text told_is (omega (read, there.inside, arith)) (drop stimulus.done there.rows) left in
-    omega (missing, same, few, count_left stimulus text there, arith)
+    let fails = gathers of_text stimulus.done stimulus.line (rows_left stimulus) origin in
+    let bytes = fails.0.0 in (
+      (bytes, subst (λ (n : ℕ). IsFoundIn n stimulus.line bytes fault (rows_left stimulus bytes)) same fails.0.1),
+      λ text told_is.
+          let there = stands text told_is in
+          let left : rows_left stimulus (drop mid.read text) ≡ Ok (drop stimulus.done there.rows) = ap (λ (n : ℕ). rows_left stimulus (drop n text)) read ∙ there.left in
+          let missing = fails.1 text told_is (omega (read, there.inside, arith)) (drop stimulus.done there.rows) left in
+          omega (missing, same, few, count_left stimulus text there, arith),
+    )
 
 -- the rows have the width
-pub rows_wide : (stimulus : Stimulus) (batch : Batch) → HasItsRows stimulus.before stimulus.done batch → batch.scan.width ≡ stimulus.width → All (λ row. length row ≡ stimulus.width) batch.rows.items
+pub rows_wide : (stimulus : Stimulus) (batch : Batch) → HasItsRows stimulus.before stimulus.done batch → batch.scan.width ≡ stimulus.width → All (λ row. length row ≡ stimulus.width) batch.rows
 rows_wide stimulus batch has width = λ k d inside.
-    let rows = batch.rows.items in
+    let rows = batch.rows in
     let copies = replicate batch.owed (last_row stimulus.before rows) in
     let there = has.wide k d (omega (inside, length-append rows copies, arith)) in
     sym (ap (λ (row : List Bool). length row) (get_or_append_left rows copies d k inside)) ∙ there ∙ width
@@ -164,5 +169,5 @@ last_of : (width : ℕ) (row : List Bool) (rows : List (List Bool)) → length r
 last_of width row [] wide all = wide
 last_of width row (next ∷ rows) wide all = last_of width next rows (all 0 next (omega arith)) (λ k d inside. all (suc k) d (omega (inside, arith)))
 
-pub last_wide : (stimulus : Stimulus) (batch : Batch) → HasItsRows stimulus.before stimulus.done batch → batch.scan.width ≡ stimulus.width → length (last_row stimulus.before batch.rows.items) ≡ stimulus.width
-last_wide stimulus batch has width = last_of stimulus.width stimulus.before batch.rows.items (has.first ∙ width) (rows_wide stimulus batch has width)
+pub last_wide : (stimulus : Stimulus) (batch : Batch) → HasItsRows stimulus.before stimulus.done batch → batch.scan.width ≡ stimulus.width → length (last_row stimulus.before batch.rows) ≡ stimulus.width
+last_wide stimulus batch has width = last_of stimulus.width stimulus.before batch.rows (has.first ∙ width) (rows_wide stimulus batch has width)

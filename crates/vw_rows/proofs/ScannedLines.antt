@@ -16,7 +16,7 @@ use Rattle.vw_rows.specs.declared.scan.Scan.{Scan}
 use Rattle.vw_rows.specs.Stimulus.{line_words, rows_added, last_row, within_run, and_then, behind, rows_of_lines}
 use Rattle.vw_rows.specs.Steps.Saying.{EndsWord}
 use Rattle.vw_rows.specs.Steps.Lines.{IsUnended, IsLine, BeginsBad}
-use Rattle.vw_rows.specs.Steps.Scans.{count_of, rows_by, FitsWidth, AddsRows, AddsToRun}
+use Rattle.vw_rows.specs.Steps.Scans.{rows_from_line, rows_by, FitsWidth, AddsRows, AddsToRun}
 
 -- ---- one line
 
@@ -37,18 +37,18 @@ letters_done read line count ends is =
     let said = ends is.done is.part is.row is.said is.solid in
     no_letters count said.1 said.2
 
-pub length-rows_by : (adds : Adds) (row before : List Bool) → length (rows_by adds row before) ≡ count_of adds
+pub length-rows_by : (adds : Adds) (row before : List Bool) → length (rows_by adds row before) ≡ rows_from_line adds
 length-rows_by Nothing row before = refl
 length-rows_by Row row before = refl
 length-rows_by (Copies times) row before = length-replicate times before
 
-few_added : (adds : Adds) (width : ℕ) (row : List Bool) → FitsWidth width adds row → count_of adds ≤ 4294967295
+few_added : (adds : Adds) (width : ℕ) (row : List Bool) → FitsWidth width adds row → rows_from_line adds ≤ 4294967295
 few_added Nothing width row fits = omega arith
 few_added Row width row fits = omega arith
 few_added (Copies times) width row fits = fits
 
 -- with this line there are too many rows
-pub too_many_clocks : (scan : Scan) (adds : Adds) (line : List ℕ) (clocks : ℕ) (before : List Bool) → AddsRows scan adds line → scan.clocks ≤ 4294967295 → clocks ≡ min (scan.clocks + count_of adds) (2 ^ 64 - 1) → 4294967295 < clocks
+pub too_many_clocks : (scan : Scan) (adds : Adds) (line : List ℕ) (clocks : ℕ) (before : List Bool) → AddsRows scan adds line → scan.clocks ≤ 4294967295 → clocks ≡ min (scan.clocks + rows_from_line adds) (2 ^ 64 - 1) → 4294967295 < clocks
     → within_run scan.clocks (rows_added scan.width scan.number before (line_words line)) ≡ Err (TooManyClocks clocks)
 too_many_clocks scan adds line clocks before is few sum many =
     let by = rows_by adds is.row before in
@@ -58,7 +58,7 @@ too_many_clocks scan adds line clocks before is few sum many =
     ∙ ap (λ n. Err (TooManyClocks n)) exact
 
 -- the line is counted
-pub counted_line : (scan : Scan) (adds : Adds) (line : List ℕ) (clocks : ℕ) → AddsRows scan adds line → scan.clocks ≤ 4294967295 → clocks ≡ min (scan.clocks + count_of adds) (2 ^ 64 - 1) → clocks ≤ 4294967295 → AddsToRun scan adds line
+pub counted_line : (scan : Scan) (adds : Adds) (line : List ℕ) (clocks : ℕ) → AddsRows scan adds line → scan.clocks ≤ 4294967295 → clocks ≡ min (scan.clocks + rows_from_line adds) (2 ^ 64 - 1) → clocks ≤ 4294967295 → AddsToRun scan adds line
 counted_line scan adds line clocks is few sum within = record {
   row = is.row;
   added = λ before.
@@ -78,7 +78,7 @@ module _ (scan : Scan) (before : List Bool) where
   -- a line with its end, and what stands behind it
   pub line_further : (adds : Adds) (line rest : List ℕ) → (is : AddsToRun scan adds line) → IsUnended line
       → rows_from (line ++ 10 ∷ rest)
-      ≡ behind (rows_by adds is.row before) (rows_of_lines scan.width (scan.number + 1) (scan.clocks + count_of adds) (last_row before (rows_by adds is.row before)) (text_lines rest))
+      ≡ behind (rows_by adds is.row before) (rows_of_lines scan.width (scan.number + 1) (scan.clocks + rows_from_line adds) (last_row before (rows_by adds is.row before)) (text_lines rest))
   line_further adds line rest is unended =
       let by = rows_by adds is.row before in
       let further = λ (added : List (List Bool)). behind added (rows_of_lines scan.width (scan.number + 1) (scan.clocks + length added) (last_row before added) (text_lines rest)) in

@@ -1,7 +1,7 @@
 -- The lines of a trace, batch by batch.
 use Rattle.std.proofs.Common.{◌≡◌, ◌+◌, ℕ, Bool, List, [], ◌∷◌, ◌++◌, length, ap, sym, ◌∙◌, arith, append_assoc, length-append}
 use Rattle.vw_net.specs.History.{History, joined}
-use Rattle.vw_rows.specs.Trace.{rows_text, clock_text, end_text, lines_from}
+use Rattle.vw_rows.specs.Trace.{rows_text, clock_text, end_text, trace_lines_from}
 
 -- the lines of clocks, and then of others
 pub rows_text-append : (first : ℕ) (outputs states later_outputs later_states : List (List Bool)) → length outputs ≡ length states → rows_text first (outputs ++ later_outputs) (states ++ later_states) ≡ rows_text first outputs states ++ rows_text (first + length outputs) later_outputs later_states
@@ -14,8 +14,8 @@ rows_text-append first (row ∷ outputs) (state ∷ states) later_outputs later_
     ∙ sym (append_assoc (clock_text first row state) (rows_text (first + 1) outputs states) (rows_text (first + length (row ∷ outputs)) later_outputs later_states))
 
 -- what follows the first line goes on behind the clocks of a first history
-pub lines_from-joined : (first : ℕ) (one more : History) → length one.outputs ≡ length one.states → lines_from first (joined one more) ≡ rows_text first one.outputs one.states ++ lines_from (first + length one.outputs) more
-lines_from-joined first one more same =
+pub trace_lines_from-joined : (first : ℕ) (one more : History) → length one.outputs ≡ length one.states → trace_lines_from first (joined one more) ≡ rows_text first one.outputs one.states ++ trace_lines_from (first + length one.outputs) more
+trace_lines_from-joined first one more same =
     let count : first + length (one.outputs ++ more.outputs) ≡ first + length one.outputs + length more.outputs = omega (arith, length-append one.outputs more.outputs) in
     let written = rows_text first one.outputs one.states in
     let later = rows_text (first + length one.outputs) more.outputs more.states in
@@ -24,5 +24,5 @@ lines_from-joined first one more same =
     ∙ append_assoc written later (end_text (first + length one.outputs + length more.outputs) more.last)
 
 -- behind the last clock the last line is left
-pub lines_from-ended : (first : ℕ) (last : List Bool) → lines_from first (record { outputs = []; states = []; last = last }) ≡ end_text first last
-lines_from-ended first last = ap (λ n. end_text n last) (let e : first + 0 ≡ first = omega arith in e)
+pub trace_lines_from-ended : (first : ℕ) (last : List Bool) → trace_lines_from first (record { outputs = []; states = []; last = last }) ≡ end_text first last
+trace_lines_from-ended first last = ap (λ n. end_text n last) (let e : first + 0 ≡ first = omega arith in e)

@@ -1,7 +1,8 @@
 -- A checked stimulus, and how far it was given.
-use Rattle.std.specs.Prelude.{◌≡◌, ◌≤◌, ℕ, ◌+◌, Bool, false, List, ◌++◌, length, replicate, drop, Result, Ok, Err}
+use Rattle.std.specs.Prelude.{◌≡◌, ◌≤◌, ◌<◌, ℕ, ◌+◌, Bool, false, List, ◌++◌, length, replicate, drop, Result, Ok, Err}
 use Rattle.vw_text.specs.Physical.{text_lines}
 use Rattle.vw_rows.specs.declared.fault.StimFault.{StimFault}
+use Rattle.vw_rows.specs.declared.fault.StimFault.TheVariants.{BadLine}
 use Rattle.vw_rows.specs.declared.stimulus.Stimulus.{Stimulus}
 use Rattle.vw_rows.specs.Stimulus.{behind, rows_of_lines, stimulus_rows}
 
@@ -23,6 +24,19 @@ pub record StandsIn (stimulus : Stimulus) (text : List ℕ) : Type 0 where
 abbrev pub Checks : ℕ → List ℕ → Result Stimulus StimFault → Type 0
 Checks width text (Ok stimulus) = StandsIn stimulus text
 Checks width text (Err fault) = stimulus_rows width text ≡ Err fault
+
+-- the rows that are still to be given, where this is the text from the place of a stimulus on
+abbrev pub rows_left : Stimulus → List ℕ → Result (List (List Bool)) StimFault
+rows_left stimulus text = behind (replicate stimulus.owed stimulus.before) (rows_of_lines stimulus.width stimulus.line (stimulus.done + stimulus.owed) stimulus.before (text_lines text))
+
+-- bytes in which a fault was found, whose first line has this number: it is their first, or they have fewer rows than are wanted, and the line behind their last is bad
+abbrev pub IsFoundIn : ℕ → ℕ → List ℕ → StimFault → Result (List (List Bool)) StimFault → Type 0
+IsFoundIn wanted number bytes fault (Err first) = fault ≡ first
+IsFoundIn wanted number bytes fault (Ok rows) = (length rows < wanted) × (fault ≡ BadLine (number + length (text_lines bytes)))
+
+-- so many rows don't come next: of some bytes, read from the place of a stimulus on, this is the fault
+abbrev pub HasNoNext : ℕ → Stimulus → StimFault → Type 0
+HasNoNext wanted stimulus fault = (bytes : List ℕ) × IsFoundIn wanted stimulus.line bytes fault (rows_left stimulus bytes)
 
 -- a stimulus of this name and of so many columns, of which nothing was given
 pub record IsAtStart (name : List ℕ) (width : ℕ) (stimulus : Stimulus) : Type 0 where

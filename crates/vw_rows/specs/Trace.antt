@@ -29,14 +29,14 @@ abbrev pub end_text : ℕ → List Bool → List ℕ
 end_text clocks last = codes "end " ++ decimal clocks ++ 32 ∷ bits_text last ++ 10 ∷ []
 
 -- what follows the first line, where the clocks of a history are numbered from this number on
-abbrev pub lines_from : ℕ → History → List ℕ
-lines_from first history = rows_text first history.outputs history.states ++ end_text (first + length history.outputs) history.last
+abbrev pub trace_lines_from : ℕ → History → List ℕ
+trace_lines_from first history = rows_text first history.outputs history.states ++ end_text (first + length history.outputs) history.last
 
 -- the trace of a history of this many outputs, probes and latches, whose clocks are numbered from `first` on; in each clock
 -- the probes stand behind the outputs
 abbrev pub trace_text_from : ℕ → ℕ → ℕ → ℕ → History → List ℕ
 trace_text_from first output_count probe_count latch_count history =
-    head_text output_count probe_count latch_count ++ lines_from first history
+    head_text output_count probe_count latch_count ++ trace_lines_from first history
 
 -- the same, from clock 0 on
 abbrev pub trace_text : ℕ → ℕ → ℕ → History → List ℕ

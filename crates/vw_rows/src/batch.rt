@@ -1,7 +1,7 @@
 //! Rows that are gathered into a batch as the text is read again.
 ghost use Rattle.std.specs.Prelude.{◌≡◌, ◌≢◌, ◌≤◌, ◌<◌, ◌+◌, ◌^◌, ℕ, List, length, IfOk, OnOk, IsErrOf, Err};
 ghost use Rattle.vw_rows.specs.Stimulus.{last_row};
-ghost use Rattle.vw_rows.specs.Steps.Batches.{IsPaid, IsFit, GivesCopies, AddsToBatch, EndsLineOf, TakesLineOf, TakesPieceOf, EndsTextOf, GathersOf};
+ghost use Rattle.vw_rows.specs.Steps.Batches.{IsPaid, HasFitNumbers, GivesCopies, AddsToBatch, EndsLineOf, TakesLineOf, TakesPieceOf, EndsTextOf, GathersOf};
 ghost use Rattle.vw_outside.specs.Told.{held};
 ghost use Rattle.vw_outside.specs.Reads.{CountsFault};
 ghost use Rattle.vw_rows.specs.declared.limits.TheConstants.{MOST_CLOCKS, MOST_STIMULUS_BYTES};
@@ -10,7 +10,7 @@ use crate::fault::StimFault;
 use crate::pieces::{PIECE, read_piece};
 use crate::scan::{Adds, Scan};
 use std::alloc::{AllocError, Global};
-use vw_net::Bits;
+use vw_net::{Bits, Rows};
 use vw_outside::{Name, Shelf};
 
 /// The rows of a batch so far, and where the text is.
@@ -22,39 +22,42 @@ pub struct Batch {
     pub at: u64,
     /// The place up to which it was read.
     pub read: u64,
-    pub rows: Vec<Bits>,
+    pub rows: Rows,
     /// How many rows there are to be.
     pub wanted: usize,
     /// How many copies of the row before that line are still to be given.
     pub owed: u64,
 }
 
-/// A row with these bits.
-pub fn row_of(alloc: Global, bits: &[bool]) -> Result<Bits, AllocError>
-    ensures { IfOk result (λ row. row ≡ bits.now) }
+/// A copy of these bits.
+fn copy_of(alloc: Global, bits: &[bool]) -> Result<Vec<bool>, AllocError>
+    ensures { IfOk result (λ row. row.items ≡ bits.now) }
 {
-    Ok(Bits::of(bits.to_vec(alloc)?))
+    Ok(bits.to_vec(alloc)?)
 }
 
 /// A copy of the last of some rows, or else of one before them.
-pub fn copy_of_last(alloc: Global, before: &Bits, rows: &[Bits]) -> Result<Bits, AllocError>
-    ensures { IfOk result (λ row. row ≡ last_row before.now rows.now) }
+pub fn copy_of_last(alloc: Global, before: &Bits, rows: &Rows) -> Result<Vec<bool>, AllocError>
+    ensures { IfOk result (λ row. row.items ≡ last_row before.now rows.now) }
 {
-    match rows.last() {
-        Some(row) => row_of(alloc, row.as_slice()),
-        None => row_of(alloc, before.as_slice()),
+    match rows.len() {
+        0 => copy_of(alloc, before.as_slice()),
+        count => copy_of(alloc, rows.row(count - 1)),
     }
 }
 
 impl Batch {
     /// Gives copies that are owed, until there are as many rows as are wanted.
     pub fn give_copies(&mut self, alloc: Global, before: &Bits) -> Result<(), AllocError>
-        requires { length self.old.rows.items ≤ self.old.wanted }
+        requires { length self.old.rows ≤ self.old.wanted }
         ensures { OnOk result (GivesCopies before.now self.old self.new) }
     {
+        if self.owed == 0 {
+            return Ok(());
+        }
+        let row = copy_of_last(alloc, before, &self.rows)?;
         while self.owed > 0 && self.rows.len() < self.wanted {
-            let row = copy_of_last(alloc, before, &self.rows)?;
-            self.rows.push(row)?;
+            self.rows.push(&row)?;
             self.owed -= 1;
         }
         Ok(())
@@ -63,16 +66,12 @@ impl Batch {
     /// Adds what a line adds.
     fn add(&mut self, alloc: Global, before: &Bits, adds: Adds) -> Result<(), AllocError>
         requires paid { self.old.owed ≡ 0 }
-        requires room { length self.old.rows.items < self.old.wanted }
+        requires room { length self.old.rows < self.old.wanted }
         ensures { OnOk result (AddsToBatch before.now adds self.old self.new) }
     {
         match adds {
             Adds::Nothing => Ok(()),
-            Adds::Row => {
-                let row = row_of(alloc, &self.scan.line.bits)?;
-                self.rows.push(row)?;
-                Ok(())
-            }
+            Adds::Row => self.rows.push(&self.scan.line.bits),
             Adds::Copies(times) => {
                 self.owed = times;
                 self.give_copies(alloc, before)
@@ -85,7 +84,7 @@ impl Batch {
         requires few { self.old.scan.clocks ≤ MOST_CLOCKS }
         requires number { self.old.scan.number + 1 < 2 ^ 64 }
         requires paid { self.old.owed ≡ 0 }
-        requires room { length self.old.rows.items < self.old.wanted }
+        requires room { length self.old.rows < self.old.wanted }
         ensures ends { EndsLineOf before.now self.old self.new result }
         ensures reads_nothing { result ≢ Err StimFault.ReadFault }
     {
@@ -99,11 +98,11 @@ impl Batch {
     /// Reads the line at the front of a piece, or so much of it as is there, and says how many bytes.
     fn take_line(&mut self, alloc: Global, before: &Bits, piece: &[u8]) -> Result<usize, StimFault>
         requires some { 0 < length piece.now }
-        requires fit { IsFit self.old }
-        requires room { length self.old.rows.items < self.old.wanted }
+        requires fit { HasFitNumbers self.old }
+        requires room { length self.old.rows < self.old.wanted }
         requires limit { self.old.read + length piece.now ≤ MOST_STIMULUS_BYTES }
         ensures takes { TakesLineOf before.now piece.now self.old self.new result }
-        ensures fit { OnOk result (IsFit self.new) }
+        ensures fit { OnOk result (HasFitNumbers self.new) }
         ensures progress { IfOk result (λ count. 0 < count) }
         ensures within { IfOk result (λ count. count ≤ length piece.now) }
         ensures read { IfOk result (λ count. self.new.read ≡ self.old.read + count) }
@@ -121,10 +120,10 @@ impl Batch {
 
     /// Reads the lines at the front of a piece, until there are as many rows as are wanted.
     pub fn take(&mut self, alloc: Global, before: &Bits, piece: &[u8]) -> Result<(), StimFault>
-        requires fit { IsFit self.old }
+        requires fit { HasFitNumbers self.old }
         requires limit { self.old.read + length piece.now ≤ MOST_STIMULUS_BYTES }
         ensures takes { TakesPieceOf before.now piece.now self.old self.new result }
-        ensures fit { OnOk result (IsFit self.new) }
+        ensures fit { OnOk result (HasFitNumbers self.new) }
         ensures wanted { OnOk result (self.new.wanted ≡ self.old.wanted) }
         ensures reads_nothing { result ≢ Err StimFault.ReadFault }
     {
@@ -139,11 +138,11 @@ impl Batch {
 
     /// Adds what the last line of the text adds, which nothing ends. There is one, and no row is missing behind it.
     fn finish(&mut self, alloc: Global, before: &Bits) -> Result<(), StimFault>
-        requires fit { IsFit self.old }
-        requires room { length self.old.rows.items < self.old.wanted }
+        requires fit { HasFitNumbers self.old }
+        requires room { length self.old.rows < self.old.wanted }
         ensures ends { EndsTextOf before.now self.old self.new result }
-        ensures fit { OnOk result (IsFit self.new) }
-        ensures full { OnOk result (length self.new.rows.items ≡ self.old.wanted) }
+        ensures fit { OnOk result (HasFitNumbers self.new) }
+        ensures full { OnOk result (length self.new.rows ≡ self.old.wanted) }
         ensures wanted { OnOk result (self.new.wanted ≡ self.old.wanted) }
         ensures reads_nothing { result ≢ Err StimFault.ReadFault }
     {
@@ -179,12 +178,12 @@ impl Batch {
         name: &Name,
         before: &Bits,
     ) -> Result<(), StimFault>
-        requires fit { IsFit self.old }
+        requires fit { HasFitNumbers self.old }
         requires short { (bytes : List ℕ) → (S.seen shelf.old).told name.now ≡ held bytes
             → length bytes ≤ MOST_STIMULUS_BYTES }
         ensures gathers { GathersOf ((S.seen shelf.old).told name.now) before.now self.old self.new result }
-        ensures fit { OnOk result (IsFit self.new) }
-        ensures full { OnOk result (length self.new.rows.items ≡ self.old.wanted) }
+        ensures fit { OnOk result (HasFitNumbers self.new) }
+        ensures full { OnOk result (length self.new.rows ≡ self.old.wanted) }
         ensures fault { IsErrOf result StimFault.ReadFault
             → CountsFault name.now (S.seen shelf.old) (S.seen shelf.new) }
         ensures kept { result ≢ Err StimFault.ReadFault → S.seen shelf.new ≡ S.seen shelf.old }

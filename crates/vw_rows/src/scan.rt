@@ -1,7 +1,7 @@
 //! The lines of a stimulus text, as it is read piece by piece.
 ghost use Rattle.std.specs.Prelude.{◌≡◌, ◌≢◌, ◌≤◌, ◌<◌, ◌+◌, ◌^◌, [], OnOk, Err};
 ghost use Rattle.vw_rows.specs.Steps.Lines.{IsLine};
-ghost use Rattle.vw_rows.specs.Steps.Scans.{count_of, AddsLine, EndsLine};
+ghost use Rattle.vw_rows.specs.Steps.Scans.{rows_from_line, AddsLine, EndsLine};
 ghost use Rattle.vw_rows.specs.declared.limits.TheConstants.{MOST_CLOCKS};
 
 use crate::fault::StimFault;
@@ -31,7 +31,7 @@ pub struct Scan {
 
 /// How many rows a line adds.
 fn count_of(adds: Adds) -> u64
-    ensures { result ≡ count_of adds }
+    ensures { result ≡ rows_from_line adds }
 {
     match adds {
         Adds::Nothing => 0,

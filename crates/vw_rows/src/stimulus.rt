@@ -44,7 +44,7 @@ impl Stimulus {
     ghost use Rattle.vw_outside.specs.Told.{absent, held, OfText};
     ghost use Rattle.vw_outside.specs.Reads.{CountsFault};
     ghost use Rattle.vw_rows.specs.Stimulus.{stimulus_rows, is_of_text, is_text_fault};
-    ghost use Rattle.vw_rows.specs.Standing.{Checks, IsAtStart, StandsIn, GaveMore};
+    ghost use Rattle.vw_rows.specs.Standing.{Checks, IsAtStart, StandsIn, GaveMore, HasNoNext};
     ghost use Rattle.vw_rows.specs.Steps.NextRows.{GathersNext};
 
     /// How many rows the text has.
@@ -123,7 +123,7 @@ impl Stimulus {
             scan: Scan::new(alloc, self.width, self.width, self.line, clocks),
             at: self.at,
             read: self.at,
-            rows: Vec::new(alloc),
+            rows: Rows::new(alloc),
             wanted,
             owed: self.owed,
         };
@@ -136,7 +136,9 @@ impl Stimulus {
     /// columns. It reads the text on from where it stands, for about as many bytes as these rows take.
     ///
     /// It takes memory for these rows and for one more. After a fault nothing was given. Where the text isn't the one
-    /// that was checked, it may be found at fault; where it ends too early, that is a bad line.
+    /// that was checked, it may be found at fault. A last line that nothing ends counts as a line; where rows are missing
+    /// at the end of the text, the line behind the last one is bad. Each read asks for at least twice as many bytes as the
+    /// one before, and for 32 KiB at the most.
     pub fn next_batch<S: Shelf>(
         &mut self,
         alloc: Global,
@@ -164,6 +166,10 @@ impl Stimulus {
         ensures width { IfOk result (All (λ row. length row ≡ self.old.width)) }
         ensures unmoved { OnErr result (self.new ≡ self.old) }
 
+        // A fault that lies in the text is that of bytes which were read as the text, from where the stimulus stood.
+        ensures refused { IfErr result (λ fault. is_text_fault fault ≡ true
+            → HasNoNext (min most (self.old.clocks - self.old.done)) self.old fault) }
+
         // What the reads leave of the shelf.
         ensures fault { IsErrOf result StimFault.ReadFault
             → CountsFault self.old.name (S.seen shelf.old) (S.seen shelf.new) }
@@ -171,13 +177,12 @@ impl Stimulus {
     {
         let wanted = u64::from(most).min(self.clocks - self.done) as usize;
         let batch = self.gather(alloc, shelf, wanted)?;
-        let before = copy_of_last(alloc, &self.before, &batch.rows)?;
-        let rows = Rows::of(batch.rows);
+        let before = Bits::of(copy_of_last(alloc, &self.before, &batch.rows)?);
         self.done += wanted as u64;
         self.at = batch.at;
         self.line = batch.scan.number;
         self.before = before;
         self.owed = batch.owed;
-        Ok(rows)
+        Ok(batch.rows)
     }
 }

@@ -6,13 +6,13 @@ use std::alloc::{AllocError, Global};
 use vw_net::{Bits, Rows};
 
 /// Appends one character for each bit, or `-` where there is none.
-fn push_bits(text: &mut Vec<u8>, bits: &Bits) -> Result<(), AllocError>
+fn push_bits(text: &mut Vec<u8>, bits: &[bool]) -> Result<(), AllocError>
     ensures { OnOk result (text.new.items ≡ text.old.items ++ bits_text bits.now) }
 {
-    if bits.len() == 0 {
+    if bits.is_empty() {
         return Ok(text.push(b'-')?);
     }
-    for bit in bits.as_slice() {
+    for bit in bits {
         text.push(if *bit { b'1' } else { b'0' })?;
     }
     Ok(())
@@ -23,8 +23,8 @@ fn push_clock(
     alloc: Global,
     text: &mut Vec<u8>,
     clock: u128,
-    outputs: &Bits,
-    latches: &Bits,
+    outputs: &[bool],
+    latches: &[bool],
 ) -> Result<(), AllocError>
     ensures { OnOk result (text.new.items
         ≡ text.old.items ++ clock_text clock outputs.now latches.now) }
@@ -55,7 +55,8 @@ pub fn trace_head(
     Ok(line.into_bytes())
 }
 
-/// The lines of clocks numbered from `first` on: the outputs of each, and the latch values before its step.
+/// The lines of clocks numbered from `first` on: the outputs of each, and the latch values before its step. Clocks are
+/// counted in 128 bits, so that each `first` will do.
 pub fn trace_rows(
     alloc: Global,
     first: u64,
@@ -66,14 +67,13 @@ pub fn trace_rows(
     ensures { IfOk result (λ text. text.items ≡ rows_text first outputs.now latches.now) }
 {
     let mut text = Vec::new(alloc);
-    let states = latches.as_slice();
-    for (i, row) in outputs.as_slice().iter().enumerate() {
+    for i in 0..outputs.len() {
         push_clock(
             alloc,
             &mut text,
             u128::from(first) + i as u128,
-            row,
-            &states[i],
+            outputs.row(i),
+            latches.row(i),
         )?;
     }
     Ok(text)
@@ -84,7 +84,7 @@ pub fn trace_end(alloc: Global, clocks: u64, last: &Bits) -> Result<Vec<u8>, All
     ensures { IfOk result (λ text. text.items ≡ end_text clocks last.now) }
 {
     let mut text = format!(in alloc; "end {clocks} ")?.into_bytes();
-    push_bits(&mut text, last)?;
+    push_bits(&mut text, last.as_slice())?;
     text.push(b'\n')?;
     Ok(text)
 }

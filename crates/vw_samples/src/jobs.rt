@@ -6,24 +6,24 @@ ghost use Rattle.std.specs.List.{All};
 use crate::boards::{Texts, planned};
 use std::alloc::{AllocError, Global};
 use std::test::Fail;
-use vw_net::{Bits, Rows};
+use vw_net::Rows;
 use vw_prog::Job;
 
 /// Rows of these bits.
-fn rows_of(alloc: Global, lines: &[&[bool]]) -> Result<Vec<Bits>, AllocError> {
-    let mut rows = Vec::new(alloc);
+fn rows_of(alloc: Global, lines: &[&[bool]]) -> Result<Rows, AllocError> {
+    let mut rows = Rows::new(alloc);
     for line in lines {
-        rows.push(Bits::of(line.to_vec(alloc)?))?;
+        rows.push(line)?;
     }
     Ok(rows)
 }
 
 /// Whether each row has so many bits.
-fn are_wide(rows: &[Bits], width: usize) -> bool
+fn are_wide(rows: &Rows, width: usize) -> bool
     ensures { OnTrue result (All (λ row. length row ≡ width) rows.now) }
 {
-    for row in rows {
-        if row.len() != width {
+    for place in 0..rows.len() {
+        if rows.row(place).len() != width {
             return false;
         }
     }
@@ -41,5 +41,5 @@ pub fn job_of(alloc: Global, texts: &Texts, lines: &[&[bool]]) -> Result<Job, Fa
     if rows.len() > 1000 {
         return Err("many rows".into());
     }
-    Ok(Job::make(checked, 0, start, Rows::of(rows)))
+    Ok(Job::make(checked, 0, start, rows))
 }

@@ -13,7 +13,7 @@ use vw_net::{Bits, Cell, Cover, Flat, Ordered, gates_settle};
 
 /// One clock: puts the value of each net into `values`, and the next value of each latch into `state`, all of
 /// them together. It takes no memory.
-pub fn step(ordered: &Ordered, inputs: &Bits, state: &mut Bits, values: &mut Bits)
+pub fn step(ordered: &Ordered, inputs: &[bool], state: &mut Bits, values: &mut Bits)
     requires columns { length inputs.now ≡ ordered.now.flat.inputs }
     requires latches { length state.old ≡ latch_count ordered.now.flat.cells }
     requires nets { length values.old ≡ ordered.now.flat.inputs + length ordered.now.flat.cells }
@@ -32,11 +32,11 @@ pub fn step(ordered: &Ordered, inputs: &Bits, state: &mut Bits, values: &mut Bit
 }
 
 /// Puts the bit of each input into the place of its net.
-pub(crate) fn put_inputs(inputs: &Bits, values: &mut Bits)
+pub(crate) fn put_inputs(inputs: &[bool], values: &mut Bits)
     requires { length inputs.now ≤ length values.old }
     ensures { values.new ≡ inputs.now ++ drop (length inputs.now) values.old }
 {
-    for (net, bit) in inputs.as_slice().iter().enumerate() {
+    for (net, bit) in inputs.iter().enumerate() {
         values.set(net, *bit);
     }
 }

@@ -66,7 +66,7 @@ impl<'a> Simulator<'a> {
 
     /// One clock: puts the value of each net into `values`, and the next value of each latch into `state`, all of
     /// them together. It takes no memory.
-    pub fn step(&self, inputs: &Bits, state: &mut Bits, values: &mut Bits)
+    pub fn step(&self, inputs: &[bool], state: &mut Bits, values: &mut Bits)
         requires columns { length inputs.now ≡ self.now.flat.inputs }
         requires latches { length state.old ≡ latch_count self.now.flat.cells }
         requires nets { length values.old ≡ self.now.flat.inputs + length self.now.flat.cells }

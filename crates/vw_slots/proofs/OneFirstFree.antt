@@ -3,7 +3,7 @@ use Rattle.std.proofs.Common.{◌≡◌, ◌≤◌, ℕ, ⊎_elim, ◌∙◌, ap
 use Rattle.std.proofs.Math.Nat.{le_antisymm}
 use Rattle.std.proofs.lemmas.Bool.{cases_lt}
 use Rattle.vw_slots.specs.declared.slot.Slot.{Slot}
-use Rattle.vw_slots.specs.Slots.{Slots, is_taken, IsFirstFree}
+use Rattle.vw_slots.specs.Slots.{Slots, is_pin_taken, IsFirstFree}
 
 module _ (slots : Slots) (link not_before : ℕ) where
   -- an earlier slot would be of a full microcycle
@@ -12,7 +12,7 @@ module _ (slots : Slots) (link not_before : ℕ) where
 
   -- a lower pin would be taken
   no_lower : (one other : Slot) → one.at ≡ other.at → IsFirstFree slots link not_before one → IsFirstFree slots link not_before other → other.pin ≤ one.pin
-  no_lower one other same is are = ⊎_elim (λ lower. absurd (is.free (ap (λ (at : ℕ). is_taken slots.taken link one.pin at) same ∙ are.taken_below one.pin lower))) (λ higher. higher) (cases_lt one.pin other.pin)
+  no_lower one other same is are = ⊎_elim (λ lower. absurd (is.free (ap (λ (at : ℕ). is_pin_taken slots.taken link one.pin at) same ∙ are.taken_below one.pin lower))) (λ higher. higher) (cases_lt one.pin other.pin)
 
   pub first_free_once : (one other : Slot) → IsFirstFree slots link not_before one → IsFirstFree slots link not_before other → one ≡ other
   first_free_once one other is are =

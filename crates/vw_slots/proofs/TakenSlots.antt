@@ -8,7 +8,7 @@ use Rattle.std.proofs.lemmas.Bool.Decides.{nat_tests}
 use Rattle.vw_net.specs.Steps.Bits.{one_if}
 use Rattle.vw_net.proofs.Lists.{one_if-le}
 use Rattle.vw_slots.specs.declared.slot.Taken.{Taken}
-use Rattle.vw_slots.specs.Slots.{is_taken}
+use Rattle.vw_slots.specs.Slots.{is_pin_taken}
 
 -- how many of the slots pass a test
 abbrev slots_passing : (Taken → Bool) → List Taken → ℕ
@@ -38,9 +38,9 @@ within_more : (from count at : ℕ) → one_if (is_within from count at) + one_i
 within_more from count at = grind (arith, nat_tests)
 
 -- pigeonhole: as many slots are taken as there are microcycles in which one is
-pub as_many_taken : (taken : List Taken) (link from count : ℕ) → ((at : ℕ) → from ≤ at → at < from + count → is_taken taken link 0 at ≡ true) → count ≤ length taken
+pub as_many_taken : (taken : List Taken) (link from count : ℕ) → ((at : ℕ) → from ≤ at → at < from + count → is_pin_taken taken link 0 at ≡ true) → count ≤ length taken
 as_many_taken taken link from count all = omega (arith, as_many count all, number-le (λ slot. is_within from count slot.at) taken) where
-  as_many : (count : ℕ) → ((at : ℕ) → from ≤ at → at < from + count → is_taken taken link 0 at ≡ true) → count ≤ slots_passing (λ slot. is_within from count slot.at) taken
+  as_many : (count : ℕ) → ((at : ℕ) → from ≤ at → at < from + count → is_pin_taken taken link 0 at ≡ true) → count ≤ slots_passing (λ slot. is_within from count slot.at) taken
   as_many zero all = omega arith
   as_many (suc count) all =
       let before : count ≤ slots_passing (λ slot. is_within from count slot.at) taken = as_many count (λ at past early. all at past (omega arith)) in
@@ -56,8 +56,8 @@ one_pin_more true mine others pin was is same = let equal : mine ≡ others = sa
   pin_more mine pin = grind (arith, nat_tests)
 
 -- a slot more is taken
-pub taken_more : (taken : List Taken) (slot : Taken) (link pin at others : ℕ) → is_taken taken link pin at ≡ nat_lt pin others → (slot.link == link && slot.at == at ≡ true → slot.pin ≡ others) → is_taken (taken ++ slot ∷ []) link pin at ≡ nat_lt pin (if slot.link == link && slot.at == at then slot.pin + 1 else others)
+pub taken_more : (taken : List Taken) (slot : Taken) (link pin at others : ℕ) → is_pin_taken taken link pin at ≡ nat_lt pin others → (slot.link == link && slot.at == at ≡ true → slot.pin ≡ others) → is_pin_taken (taken ++ slot ∷ []) link pin at ≡ nat_lt pin (if slot.link == link && slot.at == at then slot.pin + 1 else others)
 taken_more taken slot link pin at others is same =
     list_any-append (λ s. (s.link == link && s.at == at) && s.pin == pin) taken (slot ∷ [])
-    ∙ ap (λ (b : Bool). is_taken taken link pin at || b) (or-false ((slot.link == link && slot.at == at) && slot.pin == pin))
-    ∙ one_pin_more (slot.link == link && slot.at == at) slot.pin others pin (is_taken taken link pin at) is same
+    ∙ ap (λ (b : Bool). is_pin_taken taken link pin at || b) (or-false ((slot.link == link && slot.at == at) && slot.pin == pin))
+    ∙ one_pin_more (slot.link == link && slot.at == at) slot.pin others pin (is_pin_taken taken link pin at) is same

@@ -4,7 +4,7 @@ use Rattle.std.specs.HashMap as hash
 use Rattle.std.proofs.lemmas.Bool.{lt-ltb, le-ltb, false≢true}
 use Rattle.vw_slots.specs.declared.slot.Slot.{Slot}
 use Rattle.vw_slots.specs.declared.slot.Taken.{Taken}
-use Rattle.vw_slots.specs.Slots.{Slots, is_taken, IsFirstFree}
+use Rattle.vw_slots.specs.Slots.{Slots, is_pin_taken, IsFirstFree}
 use Rattle.vw_slots.specs.Steps.PinUses.{PinUses, is_same, used_of, next_microcycle, used_at, next_at, AreBusy, IsChained}
 use Rattle.vw_slots.specs.Steps.Tables.{IsPinUseTable}
 use Rattle.vw_slots.proofs.WrittenPinUses.{same_key}
@@ -45,8 +45,8 @@ module _ (widths : List ℕ) (taken : List Taken) (capacity : ℕ) (pin_uses : P
     full_before = λ at past early pin below. is pin at ∙ lt-ltb pin (used_at pin_uses link at) (let width : pin < slice_index widths link = subst (λ (w : List ℕ). pin < slice_index w link) widths_are below in let full : slice_index widths link ≤ used_at pin_uses link at = busy at past early in let whole : pin < used_at pin_uses link at = omega arith in whole);
     taken_below = λ pin below. is pin slot.at ∙ lt-ltb pin (used_at pin_uses link slot.at) (omega arith);
   } where
-    is : (pin at : ℕ) → is_taken slots.taken link pin at ≡ nat_lt pin (used_at pin_uses link at)
-    is pin at = ap (λ (t : List Taken). is_taken t link pin at) taken_are ∙ table.used link pin at
+    is : (pin at : ℕ) → is_pin_taken slots.taken link pin at ≡ nat_lt pin (used_at pin_uses link at)
+    is pin at = ap (λ (t : List Taken). is_pin_taken t link pin at) taken_are ∙ table.used link pin at
 
   module _ (at pin : ℕ) (middle after : PinUses) (more_capacity : ℕ) (free : used_at pin_uses link at < slice_index widths link) (used_middle : (one other : ℕ) → used_at middle one other ≡ used_at pin_uses one other) (chained : IsChained widths middle) (pin_is : pin ≡ used_at middle link at) (used_after : (one other : ℕ) → used_at after one other ≡ (if link == one && at == other then used_at middle link at + 1 else used_at middle one other)) (next_after : (one other : ℕ) → next_at after one other ≡ next_at middle one other) where
     by_case : (b : Bool) (mine others : ℕ) (P : ℕ → Type 0) → (b ≡ true → P mine) → P others → P (cond b mine others)
@@ -57,7 +57,7 @@ module _ (widths : List ℕ) (taken : List Taken) (capacity : ℕ) (pin_uses : P
     more one other = subst (λ (n : ℕ). used_at middle one other ≤ n) (sym (used_after one other)) (by_case (link == one && at == other) (used_at middle link at + 1) (used_at middle one other) (λ n. used_at middle one other ≤ n) (λ same. let is = same_key link at one other (used_at middle) same in let whole : used_at middle one other ≤ used_at middle link at + 1 = omega (arith, is) in whole) (omega arith))
 
     -- the slot is counted
-    counted : (one other_pin other : ℕ) → is_taken (taken ++ record { link = link; pin = pin; at = at } ∷ []) one other_pin other ≡ nat_lt other_pin (used_at after one other)
+    counted : (one other_pin other : ℕ) → is_pin_taken (taken ++ record { link = link; pin = pin; at = at } ∷ []) one other_pin other ≡ nat_lt other_pin (used_at after one other)
     counted one other_pin other =
         let slot : Taken = record { link = link; pin = pin; at = at } in
         taken_more taken slot one other_pin other (used_at middle one other) (table.used one other_pin other ∙ ap (λ (n : ℕ). nat_lt other_pin n) (sym (used_middle one other))) (λ same. pin_is ∙ same_key link at one other (used_at middle) same)

@@ -18,21 +18,21 @@ abbrev pub no_slots : Board → Slots
 no_slots board = record { widths = map (λ link. link.width) board.links; taken = []; spare = 0 }
 
 -- whether a pin of a link is taken in a microcycle
-abbrev pub is_taken : List Taken → ℕ → ℕ → ℕ → Bool
-is_taken taken link pin at = list_any (λ slot. (slot.link == link && slot.at == at) && slot.pin == pin) taken
+abbrev pub is_pin_taken : List Taken → ℕ → ℕ → ℕ → Bool
+is_pin_taken taken link pin at = list_any (λ slot. (slot.link == link && slot.at == at) && slot.pin == pin) taken
 
 -- every pin of a link is taken in a microcycle
 abbrev pub IsFull : Slots → ℕ → ℕ → Type 0
-IsFull slots link at = (pin : ℕ) → pin < slice_index slots.widths link → IsTrue (is_taken slots.taken link pin at)
+IsFull slots link at = (pin : ℕ) → pin < slice_index slots.widths link → IsTrue (is_pin_taken slots.taken link pin at)
 
 -- a slot of a link is free, in the least microcycle, not before a given one, in which a pin is free, and there it is the
 -- least free pin
 pub record IsFirstFree (slots : Slots) (link not_before : ℕ) (slot : Slot) : Type 0 where
   pub in_time : not_before ≤ slot.at
   pub within : slot.pin < slice_index slots.widths link
-  pub free : ¬ (IsTrue (is_taken slots.taken link slot.pin slot.at))
+  pub free : ¬ (IsTrue (is_pin_taken slots.taken link slot.pin slot.at))
   pub full_before : (at : ℕ) → not_before ≤ at → at < slot.at → IsFull slots link at
-  pub taken_below : (pin : ℕ) → pin < slot.pin → IsTrue (is_taken slots.taken link pin slot.at)
+  pub taken_below : (pin : ℕ) → pin < slot.pin → IsTrue (is_pin_taken slots.taken link pin slot.at)
 
 -- one more slot of a link is taken
 abbrev pub with_slot : Slots → ℕ → Slot → Slots

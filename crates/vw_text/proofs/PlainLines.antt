@@ -11,7 +11,7 @@ use Rattle.vw_text.specs.Physical.{text_lines}
 use Rattle.vw_text.specs.Bare.{is_blank, trimmed, bare}
 use Rattle.vw_text.specs.Logical.{before_backslash, joined_lines, with_line}
 use Rattle.vw_text.specs.WordLines.{is_empty, words_of, word_lines_of}
-use Rattle.vw_text.specs.PlainLines.{is_special, is_plain, IsPlainLine, plain_text, lines_from}
+use Rattle.vw_text.specs.PlainLines.{is_special, is_plain, IsPlainLine, plain_text, numbered_lines}
 use Rattle.vw_text.proofs.FoundBytes.{HasNo, has_neither}
 use Rattle.vw_text.proofs.FirstLine.{line_first}
 use Rattle.vw_text.proofs.LastByte.{no_backslash}
@@ -113,7 +113,7 @@ line_read number word words rest plain some =
     ∙ cond-true (not (is_empty (word ∷ words))) _ _ some
 
 pub lines_read : (number : ℕ) (lines : List (List (List ℕ))) → AllByRecursion IsPlainLine lines
-    → word_lines_of (joined_lines number (map bare (text_lines (plain_text lines)))) ≡ lines_from number lines
+    → word_lines_of (joined_lines number (map bare (text_lines (plain_text lines)))) ≡ numbered_lines number lines
 lines_read number [] plain = refl
 lines_read number ([] ∷ lines) plain = absurd (false≢true (and_parts false true plain.0).0)
 lines_read number ((word ∷ words) ∷ lines) plain =

@@ -22,6 +22,6 @@ abbrev pub plain_text : List (List (List ℕ)) → List ℕ
 plain_text lines = flat_map (λ words. join_with_byte 32 words ++ 10 ∷ []) lines
 
 -- lines numbered from a number on
-abbrev pub lines_from : ℕ → List (List (List ℕ)) → List Line
-lines_from number [] = []
-lines_from number (words ∷ lines) = record { number = number; words = words } ∷ lines_from (number + 1) lines
+abbrev pub numbered_lines : ℕ → List (List (List ℕ)) → List Line
+numbered_lines number [] = []
+numbered_lines number (words ∷ lines) = record { number = number; words = words } ∷ numbered_lines (number + 1) lines

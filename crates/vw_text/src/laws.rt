@@ -3,7 +3,7 @@ ghost use Rattle.std.specs.Prelude.{◌≡◌, ℕ, List};
 ghost use Rattle.std.specs.List.{AllByRecursion};
 ghost use Rattle.vw_text.specs.Physical.{text_lines, lines_text, ended};
 ghost use Rattle.vw_text.specs.WordLines.{word_lines};
-ghost use Rattle.vw_text.specs.PlainLines.{IsPlainLine, plain_text, lines_from};
+ghost use Rattle.vw_text.specs.PlainLines.{IsPlainLine, plain_text, numbered_lines};
 
 /// The physical lines of a text, each with its end, are the text again; a last line that had no end has one.
 pub fn lines_join()
@@ -13,5 +13,5 @@ pub fn lines_join()
 /// Plain words, written with one space between them and a line for each list of them, are read back.
 pub fn plain_lines_read()
     ensures { (lines : List (List (List ℕ))) → AllByRecursion IsPlainLine lines
-        → word_lines (plain_text lines) ≡ lines_from 1 lines }
+        → word_lines (plain_text lines) ≡ numbered_lines 1 lines }
 {}

@@ -2,7 +2,7 @@ use crate::same::{assert_number, assert_same};
 use std::alloc::{AllocError, Global};
 use std::process::Abort;
 use std::test::Fail;
-use vw_net::Bits;
+use vw_net::Rows;
 use vw_outside::{Failed, Name, Shelf};
 use vw_rows::{StimFault, Stimulus};
 use vw_shown::name;
@@ -60,9 +60,9 @@ fn add_row(shown: &mut Vec<u8>, row: &[bool]) -> Result<(), AllocError> {
 }
 
 /// Adds a batch of rows, and `/`.
-fn add_batch(shown: &mut Vec<u8>, batch: &[Bits]) -> Result<(), AllocError> {
-    for row in batch {
-        add_row(shown, row.as_slice())?;
+fn add_batch(shown: &mut Vec<u8>, batch: &Rows) -> Result<(), AllocError> {
+    for place in 0..batch.len() {
+        add_row(shown, batch.row(place))?;
     }
     shown.push(b'/')?;
     Ok(())
@@ -80,7 +80,7 @@ fn add_batches(
     for _ in 0..20 {
         match stimulus.next_batch(alloc, shelf, most.max(1)) {
             Ok(batch) if batch.len() == 0 => break,
-            Ok(batch) => add_batch(shown, batch.as_slice())?,
+            Ok(batch) => add_batch(shown, &batch)?,
             Err(fault) => {
                 shown.extend_from_slice(&fault.text(alloc)?)?;
                 if fault != StimFault::ReadFault {

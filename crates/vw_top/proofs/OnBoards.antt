@@ -11,7 +11,7 @@ use Rattle.vw_flat.proofs.FirstProbes.{all_once}
 use Rattle.vw_front.specs.Designs.{WatchedDesign, IsWatchedDesignOf, IsNetlistOf, spells_once}
 use Rattle.vw_plan.specs.declared.board.Board.{Board}
 use Rattle.vw_board.proofs.OneBoard.{accepted_once}
-use Rattle.vw_top.specs.Kinds.{HasRoom}
+use Rattle.vw_top.specs.Kinds.{ChipsHaveRoom}
 use Rattle.vw_top.specs.OnBoards.{AreSpelledOn}
 
 -- a text has one design with the nets that probes find
@@ -46,5 +46,5 @@ module _ (probes : List Word) (d b : List ℕ) (ordered other : Ordered) (board 
   pub no_room_same : board.chips * board.cells < length ordered.flat.cells → its_board.chips * its_board.cells < length other.flat.cells
   no_room_same none = subst (λ (cells : ℕ). its_board.chips * its_board.cells < cells) cells_same (subst (λ (room : ℕ). room < length ordered.flat.cells) room_same none)
 
-  pub has_room_same : HasRoom ordered board → HasRoom other its_board
+  pub has_room_same : ChipsHaveRoom ordered board → ChipsHaveRoom other its_board
   has_room_same room = subst (λ (cells : ℕ). cells ≤ its_board.chips * its_board.cells) cells_same (subst (λ (all : ℕ). length ordered.flat.cells ≤ all) room_same room)

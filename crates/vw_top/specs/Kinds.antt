@@ -200,8 +200,8 @@ IsBadChips ordered board chips reason =
     (fault : PlanFault) × (reason ≡ reasons.Plan fault) × (chips_fault ordered.flat board chips ≡ Some fault)
 
 -- a sound plan has a place for each cell
-abbrev pub place_of : (ordered : Ordered) (board : Board) (chips : List ℕ) (plan : Plan) → IsPlanFor ordered board chips plan → HasPlace ordered.flat board chips
-place_of ordered board chips plan is = subst (HasPlace ordered.flat board) is.chips (record {
+abbrev pub plan_place : (ordered : Ordered) (board : Board) (chips : List ℕ) (plan : Plan) → IsPlanFor ordered board chips plan → HasPlace ordered.flat board chips
+plan_place ordered board chips plan is = subst (HasPlace ordered.flat board) is.chips (record {
   each = is.sound.one_chip_each.each;
   chips = is.sound.one_chip_each.chips;
   room = is.sound.one_chip_each.room;
@@ -216,7 +216,7 @@ planning_for ordered board chips = record {
   judged = record {
     Good = IsPlanFor ordered board chips;
     Bad = IsBadChips ordered board chips;
-    apart = λ plan reason is bad. place_unrefused ordered board chips reason (place_of ordered board chips plan is) bad;
+    apart = λ plan reason is bad. place_unrefused ordered board chips reason (plan_place ordered board chips plan is) bad;
     its_status = λ reason bad. ap reason_status bad.1;
   };
   Comes = HasPlace ordered.flat board chips;
@@ -232,8 +232,8 @@ IsBadFit ordered board reason =
     × (board.chips * board.cells < length ordered.flat.cells)
 
 -- all chips have room for the cells
-abbrev pub HasRoom : Ordered → Board → Type 0
-HasRoom ordered board = length ordered.flat.cells ≤ board.chips * board.cells
+abbrev pub ChipsHaveRoom : Ordered → Board → Type 0
+ChipsHaveRoom ordered board = length ordered.flat.cells ≤ board.chips * board.cells
 
 -- a good plan is made wherever the cells have room
 abbrev pub planning : Ordered → Board → Making vocabulary Plan 6
@@ -244,7 +244,7 @@ planning ordered board = record {
     apart = λ plan reason good bad. not-le_of_lt bad.1 (sound_plans_fit (planned_board ordered board plan) good.sound);
     its_status = λ reason bad. ap reason_status bad.0;
   };
-  Comes = HasRoom ordered board;
+  Comes = ChipsHaveRoom ordered board;
   sure = λ reason room bad. not-le_of_lt bad.1 room;
 }
 

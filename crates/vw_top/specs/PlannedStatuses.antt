@@ -19,7 +19,7 @@ use Rattle.vw_check.specs.Faults.{plan_fault}
 use Rattle.vw_top.specs.declared.vocabulary.File.TheVariants as files
 use Rattle.vw_top.specs.declared.vocabulary.Reason.{Reason}
 use Rattle.vw_top.specs.Messages.{vocabulary, Call}
-use Rattle.vw_top.specs.Kinds.{IsBadDesign, IsBadBoard, IsBadPlanText, IsBadPlan, IsBadFit, HasRoom}
+use Rattle.vw_top.specs.Kinds.{IsBadDesign, IsBadBoard, IsBadPlanText, IsBadPlan, IsBadFit, ChipsHaveRoom}
 use Rattle.vw_top.specs.OnBoards.{IsNoBoard, AreSpelledOn}
 
 -- ---- the plan
@@ -53,7 +53,7 @@ pub record HaveRoom (probes : List Word) (d b : List ℕ) : Type 0 where
   pub ordered : Ordered
   pub board : Board
   pub are : AreSpelledOn probes d b ordered board
-  pub room : HasRoom ordered board
+  pub room : ChipsHaveRoom ordered board
 
 -- all chips have room for fewer cells
 pub record HaveNoRoom (probes : List Word) (d b : List ℕ) : Type 0 where

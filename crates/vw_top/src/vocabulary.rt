@@ -41,7 +41,7 @@ impl CommandFile for File {
 }
 
 /// What is wrong with the words or the files of a command: a variant for each kind of fault, with the fault of the
-/// crate that finds it.
+/// crate that finds it. It has no `Debug`, since a name in a fault has none.
 #[derive(Drop)]
 pub enum Reason {
     /// The design text has no netlist with an order of its gates, for this fault.

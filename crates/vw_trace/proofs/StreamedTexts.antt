@@ -13,7 +13,7 @@ use Rattle.vw_rows.specs.declared.stimulus.Stimulus.{Stimulus}
 use Rattle.vw_rows.specs.Standing.{StandsIn}
 use Rattle.vw_trace.specs.declared.fault.RunFault.{RunFault}
 use Rattle.vw_trace.specs.declared.fault.RunFault.TheVariants.{ReadFault, WriteFault, Stimulus as BadRows, NoMemory}
-use Rattle.vw_trace.specs.Recorded.{ended}
+use Rattle.vw_trace.specs.Recorded.{no_more_clocks}
 use Rattle.vw_trace.specs.RunFaults.{run_fault_of}
 use Rattle.vw_trace.specs.Streamed.{EndsStreaming, EndsAt, HasClocks, DoneFor, Streams}
 use Rattle.vw_trace.specs.Steps.Recording.{Point, RecordsClocks}
@@ -97,26 +97,26 @@ module _ (stimulus : Stimulus) (flat : Flat) (start : Point) (Done : List (List 
 
   module _ (last : List Bool) (left_after : History → List ℕ) (shelf_after : SeenShelf) (mid after : SeenSink)
       (clocks : RecordsClocks stimulus flat start last left_after Done shelf out shelf_after mid (Ok tt)) where
-    left : IsLeft out (text_of clocks.rows) mid (left_after (ended last))
+    left : IsLeft out (text_of clocks.rows) mid (left_after (no_more_clocks last))
     left = record { so_far = clocks.ends.1; seen = clocks.ends.2; whole = clocks.ends.3 }
 
     -- what follows the last clock wasn't written whole
-    pub no_end : (why : Unwritten) → WritesOut (left_after (ended last)) mid after (Err why) → Recorded last shelf_after after (Err (run_fault_of why))
+    pub no_end : (why : Unwritten) → WritesOut (left_after (no_more_clocks last)) mid after (Err why) → Recorded last shelf_after after (Err (run_fault_of why))
     no_end why failed = record {
       rows = clocks.rows;
       are = clocks.are;
       ends = ends_unwritten stimulus.name (text_of clocks.rows) shelf out shelf_after after why clocks.ends.0
-          (unwritten_in_piece out (text_of clocks.rows) mid after (left_after (ended last)) [] why
-          (subst (λ (rest : List ℕ). IsLeft out (text_of clocks.rows) mid rest) (sym (append-nil (left_after (ended last)))) left) failed);
+          (unwritten_in_piece out (text_of clocks.rows) mid after (left_after (no_more_clocks last)) [] why
+          (subst (λ (rest : List ℕ). IsLeft out (text_of clocks.rows) mid rest) (sym (append-nil (left_after (no_more_clocks last)))) left) failed);
       meanwhile = (length clocks.rows, (subst Done (sym (take_all (length clocks.rows) clocks.rows (omega arith))) clocks.meanwhile, tt));
     }
 
     -- all was written
-    pub all_recorded : after ≡ appended mid (left_after (ended last)) → Recorded last shelf_after after (Ok tt)
+    pub all_recorded : after ≡ appended mid (left_after (no_more_clocks last)) → Recorded last shelf_after after (Ok tt)
     all_recorded all = record {
       rows = clocks.rows;
       are = clocks.are;
-      ends = (clocks.ends.0, last_piece out (text_of clocks.rows) mid after (left_after (ended last)) left all);
+      ends = (clocks.ends.0, last_piece out (text_of clocks.rows) mid after (left_after (no_more_clocks last)) left all);
       meanwhile = (clocks.meanwhile, clocks.all);
     }
 

@@ -7,5 +7,5 @@ abbrev pub clocks_before : List (List Bool) → List (List Bool) → History →
 clocks_before outputs states more = record { outputs = outputs ++ more.outputs; states = states ++ more.states; last = more.last }
 
 -- no more clocks: the latches stay at these values
-abbrev pub ended : List Bool → History
-ended last = record { outputs = []; states = []; last = last }
+abbrev pub no_more_clocks : List Bool → History
+no_more_clocks last = record { outputs = []; states = []; last = last }

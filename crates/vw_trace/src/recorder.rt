@@ -2,7 +2,7 @@
 ghost use Rattle.std.specs.Prelude.{◌≡◌, ◌<◌, ◌+◌, ◌^◌, ◌++◌, ℕ, List, length, IfOk, OnOk};
 ghost use Rattle.std.specs.List.{All};
 ghost use Rattle.vw_net.specs.History.{History};
-ghost use Rattle.vw_trace.specs.Recorded.{clocks_before, ended};
+ghost use Rattle.vw_trace.specs.Recorded.{clocks_before, no_more_clocks};
 
 use crate::engine::Batch;
 use std::alloc::{AllocError, Global};
@@ -43,5 +43,5 @@ pub trait Recorder {
     /// The text that follows the last clock, after which the latches have these values. It takes memory for it.
     fn end(&self, alloc: Global, last: &Bits) -> Result<Vec<u8>, AllocError>
         requires { length last.now ≡ latches self.now }
-        ensures { IfOk result (λ text. text.items ≡ left self.now (ended last.now)) };
+        ensures { IfOk result (λ text. text.items ≡ left self.now (no_more_clocks last.now)) };
 }

@@ -52,12 +52,6 @@ impl Engine for Simulation<'_> {
         rows: Rows,
         state: &mut Bits,
     ) -> Result<Batch, AllocError> {
-        run_batch(
-            alloc,
-            &self.simulator,
-            rows.as_slice(),
-            state,
-            &mut self.values,
-        )
+        run_batch(alloc, &self.simulator, &rows, state, &mut self.values)
     }
 }

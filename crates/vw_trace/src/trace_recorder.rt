@@ -37,9 +37,9 @@ impl TraceRecorder {
 }
 
 impl Recorder for TraceRecorder {
-    ghost use Rattle.vw_rows.specs.Trace.{lines_from};
+    ghost use Rattle.vw_rows.specs.Trace.{trace_lines_from};
 
-    ghost left = { λ recorder. lines_from recorder.clocks };
+    ghost left = { λ recorder. trace_lines_from recorder.clocks };
 
     ghost outputs = { λ recorder. recorder.outputs };
 

@@ -10,7 +10,7 @@ ghost use Rattle.vw_wave.specs.FlatWave.{joined_rows, signal_rows, wave_left};
 
 use crate::row::put_signals;
 use std::alloc::{AllocError, Global};
-use vw_net::{Bits, Flat};
+use vw_net::{Bits, Flat, Rows};
 use vw_trace::{Batch, Recorder};
 use vw_vcd::Wave;
 
@@ -59,8 +59,8 @@ impl WaveRecorder {
     fn push_clock(
         &mut self,
         text: &mut Vec<u8>,
-        outputs: &Bits,
-        state: &Bits,
+        outputs: &[bool],
+        state: &[bool],
     ) -> Result<(), AllocError>
         requires outputs { length outputs.now ≡ self.old.outputs }
         requires latches { length state.now ≡ self.old.latches }
@@ -80,8 +80,8 @@ impl WaveRecorder {
     fn push_clocks(
         &mut self,
         text: &mut Vec<u8>,
-        outputs: &[Bits],
-        states: &[Bits],
+        outputs: &Rows,
+        states: &Rows,
     ) -> Result<(), AllocError>
         requires count { length outputs.now ≡ length states.now }
         requires outputs { All (λ bits. length bits ≡ self.old.outputs) outputs.now }
@@ -97,8 +97,8 @@ impl WaveRecorder {
         ensures outputs { self.new.outputs ≡ self.old.outputs }
         ensures latches { self.new.latches ≡ self.old.latches }
     {
-        for (clock, row) in outputs.iter().enumerate() {
-            self.push_clock(text, row, &states[clock])?;
+        for clock in 0..outputs.len() {
+            self.push_clock(text, outputs.row(clock), states.row(clock))?;
         }
         Ok(())
     }
@@ -121,7 +121,7 @@ impl Recorder for WaveRecorder {
 
     fn lines(&mut self, alloc: Global, batch: &Batch) -> Result<Vec<u8>, AllocError> {
         let mut text = Vec::new(alloc);
-        self.push_clocks(&mut text, batch.outputs.as_slice(), batch.states.as_slice())?;
+        self.push_clocks(&mut text, &batch.outputs, &batch.states)?;
         Ok(text)
     }
 

@@ -8,7 +8,7 @@ use Rattle.vw_prog.specs.declared.job.Share.{Share}
 use Rattle.vw_prog.specs.Scripts.{script}
 use Rattle.vw_node.specs.declared.node.Node.{Node}
 use Rattle.vw_node.specs.declared.step.Step.{Step}
-use Rattle.vw_node.specs.Fits.{IsFit, state_of}
+use Rattle.vw_node.specs.Fits.{FitsJob, state_of}
 use Rattle.vw_node.specs.Left.{left}
 use Rattle.vw_node.specs.Moves.{Goes, Steps}
 use Rattle.vw_node.specs.Positions.{Agrees}
@@ -17,7 +17,7 @@ use Rattle.vw_answer.proofs.SameLists.{same_lists}
 use Rattle.vw_world.specs.Able.{IsAble}
 use Rattle.vw_world.specs.Boards.{AreEnds, IsBoard, lefts, world_of}
 use Rattle.vw_world.specs.Kept.{IsKept, sent_at, taken_at}
-use Rattle.vw_world.specs.Lanes.{AreLanes, SeenLane, SeenLanes, ends_of, words_of}
+use Rattle.vw_world.specs.Lanes.{AreLanes, SeenLane, SeenLanes, ends_of, lane_words}
 use Rattle.vw_world.specs.Worlds.{WorldState, happens, node_at, played}
 use Rattle.vw_world.proofs.Goings.{Went, went}
 use Rattle.vw_world.proofs.KeptWorlds.{event_kept, played_kept}
@@ -67,8 +67,8 @@ module _ (job : Job) (nodes : List Node) (all : SeenLanes) (board : IsBoard job 
     room = board.ends.room;
   })
 
-  pub fits_there : IsFit turned.job there
-  fits_there = subst (λ (one : Job). IsFit one there) (sym turned_job) (board.fits node there is_there)
+  pub fits_there : FitsJob turned.job there
+  fits_there = subst (λ (one : Job). FitsJob one there) (sym turned_job) (board.fits node there is_there)
 
   agrees_here : Agrees job node (state_of there) (ends_of turned)
   agrees_here = subst (λ (state : NodeState). Agrees job node state (ends_of turned)) state_is (agree job world board.kept node inside_world (ends_of turned) turned_ends)
@@ -78,7 +78,7 @@ module _ (job : Job) (nodes : List Node) (all : SeenLanes) (board : IsBoard job 
 
   -- ---- the node afterwards
 
-  module _ (new : Node) (after : SeenLanes) (lanes_are : AreLanes after) (share : new.share ≡ there.share) (fits : IsFit after.job new) where
+  module _ (new : Node) (after : SeenLanes) (lanes_are : AreLanes after) (share : new.share ≡ there.share) (fits : FitsJob after.job new) where
     abbrev new_nodes : List Node
     new_nodes = set nodes node new
 
@@ -87,7 +87,7 @@ module _ (job : Job) (nodes : List Node) (all : SeenLanes) (board : IsBoard job 
       as_many : length after.lanes ≡ length then_world.links
       as_many = lanes_are.count ∙ ap (λ (one : Job). length one.checked.board.links) ends.same_job ∙ sym kept.lines
 
-      each_words : (link : ℕ) → link < length (words_of after.lanes) → get_or (words_of after.lanes) link [] ≡ get_or then_world.links link []
+      each_words : (link : ℕ) → link < length (lane_words after.lanes) → get_or (lane_words after.lanes) link [] ≡ get_or then_world.links link []
       each_words link below =
           let low : link < length after.lanes = omega (arith, below, length-map after.lanes (λ (lane : SeenLane). lane.words)) in
           let high : link < length then_world.links = omega (arith, low, as_many) in
@@ -101,7 +101,7 @@ module _ (job : Job) (nodes : List Node) (all : SeenLanes) (board : IsBoard job 
       pub world_is : world_of new_nodes after ≡ then_world
       world_is =
           let states : map state_of new_nodes ≡ then_world.nodes = map-set state_of nodes node new ∙ sym nodes_so in
-          let links : words_of after.lanes ≡ then_world.links = same_lists (words_of after.lanes) then_world.links [] (length-map after.lanes (λ (lane : SeenLane). lane.words) ∙ as_many) each_words in
+          let links : lane_words after.lanes ≡ then_world.links = same_lists (lane_words after.lanes) then_world.links [] (length-map after.lanes (λ (lane : SeenLane). lane.words) ∙ as_many) each_words in
           λ i. record { nodes = states i; links = links i }
 
       set_at : (other : ℕ) (one : Node) → slice_get new_nodes other ≡ Some one → ((other ≡ node) × (one ≡ new)) ⊎ (slice_get nodes other ≡ Some one)
@@ -120,7 +120,7 @@ module _ (job : Job) (nodes : List Node) (all : SeenLanes) (board : IsBoard job 
       board_is = record {
         same = ends.same_job;
         numbers = λ other one is. ⊎_elim (λ (own : (other ≡ node) × (one ≡ new)). ap (λ (any : Node). any.share.node) own.1 ∙ ap (λ (any : Share). any.node) share ∙ number ∙ sym own.0) (λ old. board.numbers other one old) (set_at other one is);
-        fits = λ other one is. ⊎_elim (λ (own : (other ≡ node) × (one ≡ new)). subst (IsFit job) (sym own.1) (subst (λ (any : Job). IsFit any new) ends.same_job fits)) (λ old. board.fits other one old) (set_at other one is);
+        fits = λ other one is. ⊎_elim (λ (own : (other ≡ node) × (one ≡ new)). subst (FitsJob job) (sym own.1) (subst (λ (any : Job). FitsJob any new) ends.same_job fits)) (λ old. board.fits other one old) (set_at other one is);
         kept = subst (IsKept job) (sym world_is) kept;
         ends = subst (λ (one : WorldState). AreEnds job one after.node (ends_of after)) (sym world_is) (record { same_job = ends.same_job; same_node = refl; told = refl; sent = ends.sent; taken = ends.taken; room = ends.room });
       }

@@ -8,14 +8,14 @@ use Rattle.vw_prog.specs.declared.job.Job.{Job}
 use Rattle.vw_prog.specs.declared.job.Share.{Share}
 use Rattle.vw_prog.specs.declared.word.Word.{Word}
 use Rattle.vw_node.specs.declared.node.Node.{Node}
-use Rattle.vw_node.specs.Fits.{IsFit, IsShare, state_of}
+use Rattle.vw_node.specs.Fits.{FitsJob, IsShare, state_of}
 use Rattle.vw_node.specs.Lists.{tabulate}
 use Rattle.vw_node.specs.Made.{IsMade}
 use Rattle.vw_node.specs.States.{NodeState, start_state}
 use Rattle.vw_node.proofs.Values.{length-tabulate, tabulate_more}
 use Rattle.vw_world.specs.Boards.{AreEnds, AreNodes, IsBoard, world_of}
 use Rattle.vw_world.specs.Kept.{IsKept}
-use Rattle.vw_world.specs.Lanes.{AreLanes, IsLane, SeenLane, SeenLanes, ends_of, fresh_lane, fresh_lanes, lane_at, words_of}
+use Rattle.vw_world.specs.Lanes.{AreLanes, IsLane, SeenLane, SeenLanes, ends_of, fresh_lane, fresh_lanes, lane_at, lane_words}
 use Rattle.vw_world.specs.Worlds.{WorldState, link_at, start_world}
 use Rattle.vw_world.proofs.KeptWorlds.{start_kept, start_sent, start_taken, there_is}
 
@@ -35,13 +35,13 @@ module _ (job : Job) where
         subst (IsLane job link) (sym (fresh_at link below)) (record { order = omega arith; within = omega arith; content = refl; room = refl });
   }
 
-  pub fresh_words : words_of (fresh_lanes job).lanes ≡ tabulate (λ link. []) (length job.checked.board.links)
+  pub fresh_words : lane_words (fresh_lanes job).lanes ≡ tabulate (λ link. []) (length job.checked.board.links)
   fresh_words = by job.checked.board.links where
     first_more : (count : ℕ) → tabulate {A = List Word} (λ link. []) (suc count) ≡ [] ∷ tabulate {A = List Word} (λ link. []) count
     first_more zero = refl
     first_more (suc count) = ap (λ (lists : List (List Word)). lists ++ [] ∷ []) (first_more count)
 
-    by : (links : List Link) → words_of (map fresh_lane links) ≡ tabulate (λ link. []) (length links)
+    by : (links : List Link) → lane_words (map fresh_lane links) ≡ tabulate (λ link. []) (length links)
     by [] = refl
     by (link ∷ links) = ap (λ (lists : List (List Word)). [] ∷ lists) (by links) ∙ sym (first_more (length links))
 
@@ -79,7 +79,7 @@ module _ (job : Job) where
     whole : AreNodes job (node + 1) (nodes ++ one ∷ [])
     whole = record {
       numbers = λ other there is. ⊎_elim (are.numbers other there) (λ (own : (other ≡ node) × (there ≡ one)). ap (λ (any : Node). any.share.node) own.1 ∙ ap (λ (any : Share). any.node) made.same ∙ number ∙ sym own.0) (here other there is);
-      fits = λ other there is. ⊎_elim (are.fits other there) (λ (own : (other ≡ node) × (there ≡ one)). subst (IsFit job) (sym own.1) (made.fits job its)) (here other there is);
+      fits = λ other there is. ⊎_elim (are.fits other there) (λ (own : (other ≡ node) × (there ≡ one)). subst (FitsJob job) (sym own.1) (made.fits job its)) (here other there is);
       states = map-append state_of nodes (one ∷ []) ∙ ap₂ (λ (states : List NodeState) (last : NodeState). states ++ last ∷ []) are.states state ∙ sym (tabulate_more (start_state job) node);
     }
 

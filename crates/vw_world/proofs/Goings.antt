@@ -7,7 +7,7 @@ use Rattle.vw_node.specs.declared.step.Step.{Step}
 use Rattle.vw_node.specs.declared.step.Step.TheVariants.{Moved}
 use Rattle.vw_node.specs.Holding.{HoldsValues}
 use Rattle.vw_node.specs.Left.{left}
-use Rattle.vw_node.specs.Moves.{Goes, GoesOn, Steps}
+use Rattle.vw_node.specs.Moves.{Goes, MakesActions, Steps}
 use Rattle.vw_node.specs.States.{NodeState}
 use Rattle.vw_node.proofs.MovesOn.{less_left}
 use Rattle.vw_world.specs.Able.{IsAble}
@@ -75,7 +75,7 @@ module _ (job : Job) (world : WorldState) (kept : IsKept job world) (node : ℕ)
         less = less;
       }
 
-  goes_gone : (count : ℕ) (between : NodeState) (ends : SeenEnds) → GoesOn job node state between before ends count → Gone between ends count
+  goes_gone : (count : ℕ) (between : NodeState) (ends : SeenEnds) → MakesActions job node state between before ends count → Gone between ends count
   goes_gone zero between ends (same, stay) = record {
     events = [];
     nodes = same_nodes job world kept node inside before are between same;
@@ -98,7 +98,7 @@ module _ (job : Job) (world : WorldState) (kept : IsKept job world) (node : ℕ)
 
   pub went : (new : NodeState) (after : SeenEnds) (answer : Step) → Goes job node state new before after answer → Went new after
   went new after answer goes = by goes.count goes.moves where
-    by : (count : ℕ) → GoesOn job node state goes.between before goes.ends count → Went new after
+    by : (count : ℕ) → MakesActions job node state goes.between before goes.ends count → Went new after
     by zero (same, stay) =
         let steps : Steps job node state new before after answer = subst (λ (one : NodeState). Steps job node one new before after answer) same (subst (λ (one : SeenEnds). Steps job node goes.between new one after answer) stay goes.last) in
         let refused = refused_same job world kept node inside before are answer new after goes.stops steps in

@@ -12,12 +12,12 @@ use Rattle.vw_prog.specs.declared.entry.Entry.{Entry}
 use Rattle.vw_prog.specs.declared.job.Job.{Job}
 use Rattle.vw_prog.specs.declared.word.Word.{Word}
 use Rattle.vw_prog.specs.Actions.{action_of, actions}
-use Rattle.vw_prog.specs.Ends.{IsNextWord, SeenEnds, counted}
+use Rattle.vw_prog.specs.Ends.{IsNextWord, SeenEnds, counted_at}
 use Rattle.vw_prog.specs.Scripts.{planned_of, script}
 use Rattle.vw_prog.specs.Timetable.{entries_at, is_evaluating, is_sending, is_taking, timetable}
 use Rattle.vw_node.specs.Holding.{HoldsValues}
 use Rattle.vw_node.specs.Positions.{Agrees, sent_by, taken_by}
-use Rattle.vw_node.specs.States.{NodeState, evaluated, moved, next_action, start_state, stepped, written}
+use Rattle.vw_node.specs.States.{NodeState, evaluated, moved_on, next_action, start_state, stepped, written}
 use Rattle.vw_node.proofs.EntryKinds.{evaluates, next_entry, sends, takes}
 use Rattle.vw_node.proofs.Held.{start_holds}
 use Rattle.vw_node.proofs.NodeSteps.{evaluated_agrees, is_expected, sent_agrees, sent_next, stepped_agrees, taken_agrees}
@@ -128,46 +128,46 @@ module _ (job : Job) where
     -- ---- a send
 
     pushed_carries : (link : ℕ) (word : Word) → link < length world.links → slice_get (script job link) (sent_at job world link) ≡ Some word → length (words_at world link) < capacity (link_at job link)
-        → (number : ℕ) → number < length world.links → CarriesScript job number (counted link (sent_at job world) number) (taken_at job world number) (get_or (set world.links link (words_at world link ++ word ∷ [])) number [])
+        → (number : ℕ) → number < length world.links → CarriesScript job number (counted_at link (sent_at job world) number) (taken_at job world number) (get_or (set world.links link (words_at world link ++ word ∷ [])) number [])
     pushed_carries link word there is room number within =
         let old = kept.links number within in
         let if_own = λ (same : number ≡ link).
-        let count : counted link (sent_at job world) number ≡ sent_at job world number + 1 = ap (λ (own : Bool). if own then sent_at job world number + 1 else sent_at job world number) (eq-eqb number link same) in
+        let count : counted_at link (sent_at job world) number ≡ sent_at job world number + 1 = ap (λ (own : Bool). if own then sent_at job world number + 1 else sent_at job world number) (eq-eqb number link same) in
         let back : words_at world link ≡ words_at world number = ap (words_at world) (sym same) in
         let words : get_or (set world.links link (words_at world link ++ word ∷ [])) number [] ≡ words_at world number ++ word ∷ [] =
         ap (λ (one : ℕ). get_or (set world.links link (words_at world link ++ word ∷ [])) one []) same ∙ get_or-set_same world.links link (words_at world link ++ word ∷ []) [] there ∙ ap (λ (list : List Word). list ++ word ∷ []) back in
         let next : slice_get (script job number) (sent_at job world number) ≡ Some word = ap (λ (one : ℕ). slice_get (script job one) (sent_at job world one)) same ∙ is in
-        let whole : CarriesScript job number (counted link (sent_at job world) number) (taken_at job world number) (get_or (set world.links link (words_at world link ++ word ∷ [])) number []) = record {
+        let whole : CarriesScript job number (counted_at link (sent_at job world) number) (taken_at job world number) (get_or (set world.links link (words_at world link ++ word ∷ [])) number []) = record {
           order = omega (arith, count, old.order);
           content = words ∙ ap (λ (list : List Word). list ++ word ∷ []) old.content ∙ sym (ap (λ (many : ℕ). drop (taken_at job world number) (take many (script job number))) count ∙ between_more (script job number) (taken_at job world number) (sent_at job world number) word old.order next);
           narrow = omega (arith, ap (λ (list : List Word). length list) words, length_push (words_at world number) word, room, ap (λ (list : List Word). length list) back, ap (λ (one : ℕ). capacity (link_at job one)) same);
         } in whole in
         let if_other = λ (apart : number ≡ link → ⊥).
-        let count : counted link (sent_at job world) number ≡ sent_at job world number = ap (λ (own : Bool). if own then sent_at job world number + 1 else sent_at job world number) (ne_eqb number link apart) in
+        let count : counted_at link (sent_at job world) number ≡ sent_at job world number = ap (λ (own : Bool). if own then sent_at job world number + 1 else sent_at job world number) (ne_eqb number link apart) in
         let words : get_or (set world.links link (words_at world link ++ word ∷ [])) number [] ≡ words_at world number = get_or-set_other world.links link number _ [] apart in
-        let whole : CarriesScript job number (counted link (sent_at job world) number) (taken_at job world number) (get_or (set world.links link (words_at world link ++ word ∷ [])) number []) =
+        let whole : CarriesScript job number (counted_at link (sent_at job world) number) (taken_at job world number) (get_or (set world.links link (words_at world link ++ word ∷ [])) number []) =
         subst (λ (sent : ℕ). CarriesScript job number sent (taken_at job world number) (get_or (set world.links link (words_at world link ++ word ∷ [])) number [])) (sym count) (subst (CarriesScript job number (sent_at job world number) (taken_at job world number)) (sym words) old) in whole in
         ⊎_elim if_own if_other (cases_eq number link)
 
     -- ---- a take
 
     popped_carries : (link : ℕ) (word : Word) (rest : List Word) → link < length world.links → word ∷ rest ≡ words_at world link
-        → (number : ℕ) → number < length world.links → CarriesScript job number (sent_at job world number) (counted link (taken_at job world) number) (get_or (set world.links link rest) number [])
+        → (number : ℕ) → number < length world.links → CarriesScript job number (sent_at job world number) (counted_at link (taken_at job world) number) (get_or (set world.links link rest) number [])
     popped_carries link word rest there is number within =
         let old = kept.links number within in
         let if_own = λ (same : number ≡ link).
-        let count : counted link (taken_at job world) number ≡ taken_at job world number + 1 = ap (λ (own : Bool). if own then taken_at job world number + 1 else taken_at job world number) (eq-eqb number link same) in
+        let count : counted_at link (taken_at job world) number ≡ taken_at job world number + 1 = ap (λ (own : Bool). if own then taken_at job world number + 1 else taken_at job world number) (eq-eqb number link same) in
         let words : get_or (set world.links link rest) number [] ≡ rest = ap (λ (one : ℕ). get_or (set world.links link rest) one []) same ∙ get_or-set_same world.links link rest [] there in
         let front = between_front (script job number) (taken_at job world number) (sent_at job world number) word rest (is ∙ ap (words_at world) (sym same) ∙ old.content) in
-        let whole : CarriesScript job number (sent_at job world number) (counted link (taken_at job world) number) (get_or (set world.links link rest) number []) = record {
+        let whole : CarriesScript job number (sent_at job world number) (counted_at link (taken_at job world) number) (get_or (set world.links link rest) number []) = record {
           order = omega (arith, count, front.0);
           content = words ∙ front.1.1 ∙ sym (ap (λ (many : ℕ). drop many (take (sent_at job world number) (script job number))) count);
           narrow = omega (arith, ap (λ (list : List Word). length list) words, old.narrow, ap (λ (list : List Word). length list) (is ∙ ap (words_at world) (sym same)));
         } in whole in
         let if_other = λ (apart : number ≡ link → ⊥).
-        let count : counted link (taken_at job world) number ≡ taken_at job world number = ap (λ (own : Bool). if own then taken_at job world number + 1 else taken_at job world number) (ne_eqb number link apart) in
+        let count : counted_at link (taken_at job world) number ≡ taken_at job world number = ap (λ (own : Bool). if own then taken_at job world number + 1 else taken_at job world number) (ne_eqb number link apart) in
         let words : get_or (set world.links link rest) number [] ≡ words_at world number = get_or-set_other world.links link number rest [] apart in
-        let whole : CarriesScript job number (sent_at job world number) (counted link (taken_at job world) number) (get_or (set world.links link rest) number []) =
+        let whole : CarriesScript job number (sent_at job world number) (counted_at link (taken_at job world) number) (get_or (set world.links link rest) number []) =
         subst (λ (taken : ℕ). CarriesScript job number (sent_at job world number) taken (get_or (set world.links link rest) number [])) (sym count) (subst (CarriesScript job number (sent_at job world number) (taken_at job world number)) (sym words) old) in whole in
         ⊎_elim if_own if_other (cases_eq number link)
 
@@ -214,13 +214,13 @@ module _ (job : Job) where
         let there : link < length world.links = omega (arith, slice_get_within job.checked.board.links link next.leaves.0 next.leaves.1, kept.lines) in
         let words = words_at world link ++ word ∷ [] in
         let if_room = λ (room : nat_lt (length (words_at world link)) (capacity (link_at job link)) ≡ true).
-        let changed : IsKept job (with_both world node (moved state) link words) = changed_kept (moved state) (record ends { sent = counted link (sent_at job world) }) agree
+        let changed : IsKept job (with_both world node (moved_on state) link words) = changed_kept (moved_on state) (record ends { sent = counted_at link (sent_at job world) }) agree
         (λ number apart. ap (λ (own : Bool). if own then sent_at job world number + 1 else sent_at job world number) (ne_eqb number link (λ same. apart (ap (λ (one : ℕ). (link_at job one).from) same ∙ from))))
         (λ number apart. refl) (set world.links link words) (length-set world.links link words)
         (pushed_carries link word there next.next (ltb-true (length (words_at world link)) (capacity (link_at job link)) room)) in
-        let whole : IsKept job (acts job world node state (Some (Send link pin net))) = subst (λ (open_room : Bool). IsKept job (if open_room then with_both world node (moved state) link words else world)) (sym room) changed in whole in
+        let whole : IsKept job (acts job world node state (Some (Send link pin net))) = subst (λ (open_room : Bool). IsKept job (if open_room then with_both world node (moved_on state) link words else world)) (sym room) changed in whole in
         let if_full = λ (full : nat_lt (length (words_at world link)) (capacity (link_at job link)) ≡ false).
-        let whole : IsKept job (acts job world node state (Some (Send link pin net))) = subst (λ (open_room : Bool). IsKept job (if open_room then with_both world node (moved state) link words else world)) (sym full) kept in whole in
+        let whole : IsKept job (acts job world node state (Some (Send link pin net))) = subst (λ (open_room : Bool). IsKept job (if open_room then with_both world node (moved_on state) link words else world)) (sym full) kept in whole in
         ⊎_elim if_room if_full (cases_Bool (nat_lt (length (words_at world link)) (capacity (link_at job link)))) in
         let if_step = λ (last : (state.made ≡ length (entries_at node (timetable planned))) × (Send link pin net ≡ Step)). let no : ⊥ = cc (last.1) in absurd no in
         ⊎_elim if_entry if_step (next_entry planned node state.made under (Send link pin net) now.1)
@@ -242,7 +242,7 @@ module _ (job : Job) where
           by entry at unfinished turn its own to there (word ∷ rest) words_are =
               let front = between_front (script job link) (taken_at job world link) (sent_at job world link) word rest (words_are ∙ (kept.links link there).content) in
               let agree = taken_agrees ends node state agrees unfinished entry at link net turn its own word front.1.0 in
-              changed_kept (written state net word.bit) (record ends { taken = counted link (taken_at job world) }) agree (λ number apart. refl)
+              changed_kept (written state net word.bit) (record ends { taken = counted_at link (taken_at job world) }) agree (λ number apart. refl)
               (λ number apart. ap (λ (same : Bool). if same then taken_at job world number + 1 else taken_at job world number) (ne_eqb number link (λ same. apart (ap (λ (one : ℕ). (link_at job one).to) same ∙ to))))
               (set world.links link rest) (length-set world.links link rest) (popped_carries link word rest there words_are)
 

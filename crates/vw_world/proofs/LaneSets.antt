@@ -7,7 +7,7 @@ use Rattle.std.proofs.lemmas.List.{get_or-set_other, get_or-set_same, length-dro
 use Rattle.std.proofs.lemmas.Option.{slice_get_within}
 use Rattle.vw_prog.specs.declared.job.Job.{Job}
 use Rattle.vw_prog.specs.declared.word.Word.{Word}
-use Rattle.vw_prog.specs.Ends.{IsExpected, IsNextWord, Puts, Takes, counted, one_more, refused}
+use Rattle.vw_prog.specs.Ends.{IsExpected, IsNextWord, Puts, Takes, counted_at, one_more, refused}
 use Rattle.vw_prog.specs.Scripts.{script}
 use Rattle.vw_world.specs.Lanes.{AreLanes, IsLane, SeenLane, SeenLanes, ends_of, lane_at}
 use Rattle.vw_world.proofs.KeptWorlds.{between_front, between_more}
@@ -88,7 +88,7 @@ module _ (all : SeenLanes) (are : AreLanes all) (link : ℕ) (within : link < le
           room = its.room;
         })
 
-    pub put_ends : ends_of (record all { lanes = set all.lanes link put_lane }) ≡ record (ends_of all) { sent = counted link (ends_of all).sent }
+    pub put_ends : ends_of (record all { lanes = set all.lanes link put_lane }) ≡ record (ends_of all) { sent = counted_at link (ends_of all).sent }
     put_ends = λ i. record {
       job = job;
       node = all.node;
@@ -100,7 +100,7 @@ module _ (all : SeenLanes) (are : AreLanes all) (link : ℕ) (within : link < le
       keeps = λ link. false;
       told = true;
     } where
-      sent_so : with_value (λ (one : SeenLane). one.sent) (lane.sent + 1) ≡ counted link (ends_of all).sent
+      sent_so : with_value (λ (one : SeenLane). one.sent) (lane.sent + 1) ≡ counted_at link (ends_of all).sent
       sent_so = fun_ext (λ other. by other (eqb other link) refl) where
         by : (other : ℕ) (own : Bool) → eqb other link ≡ own → (if own then lane.sent + 1 else (lane_at all.lanes other).sent) ≡ (if own then (lane_at all.lanes other).sent + 1 else (lane_at all.lanes other).sent)
         by other true same = ap (λ (one : ℕ). (lane_at all.lanes one).sent + 1) (sym (eqb-true other link same))
@@ -159,7 +159,7 @@ module _ (all : SeenLanes) (are : AreLanes all) (link : ℕ) (within : link < le
       pub take_are : AreLanes (record all { lanes = set all.lanes link take_lane })
       take_are = set_are take_lane (record { order = omega (arith, front.0); within = its.within; content = front.1.1; room = its.room })
 
-      take_ends : ends_of (record all { lanes = set all.lanes link take_lane }) ≡ record (ends_of all) { taken = counted link (ends_of all).taken }
+      take_ends : ends_of (record all { lanes = set all.lanes link take_lane }) ≡ record (ends_of all) { taken = counted_at link (ends_of all).taken }
       take_ends = λ i. record {
         job = job;
         node = all.node;
@@ -171,7 +171,7 @@ module _ (all : SeenLanes) (are : AreLanes all) (link : ℕ) (within : link < le
         keeps = λ link. false;
         told = true;
       } where
-        taken_so : with_value (λ (one : SeenLane). one.taken) (lane.taken + 1) ≡ counted link (ends_of all).taken
+        taken_so : with_value (λ (one : SeenLane). one.taken) (lane.taken + 1) ≡ counted_at link (ends_of all).taken
         taken_so = fun_ext (λ other. by other (eqb other link) refl) where
           by : (other : ℕ) (own : Bool) → eqb other link ≡ own → (if own then lane.taken + 1 else (lane_at all.lanes other).taken) ≡ (if own then (lane_at all.lanes other).taken + 1 else (lane_at all.lanes other).taken)
           by other true same = ap (λ (one : ℕ). (lane_at all.lanes one).taken + 1) (sym (eqb-true other link same))

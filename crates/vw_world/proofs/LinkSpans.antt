@@ -14,7 +14,7 @@ use Rattle.vw_plan.proofs.HopLinks.{hop_link, one_link}
 use Rattle.vw_net.proofs.CountsOverLists.{count_append, count_cons, count_le, count_le_all, count_sorted}
 use Rattle.vw_plan.proofs.OneHopAPin.{one_user}
 use Rattle.vw_prog.specs.declared.entry.Entry.{Entry}
-use Rattle.vw_prog.specs.Timetable.{comes_before, entries, gate_entries, gate_entry, hop_entries, is_sending, is_sent, link_place, sent_entry, taken_entry, timetable, wire_entries}
+use Rattle.vw_prog.specs.Timetable.{comes_before, entries, gate_entries, gate_entry, hop_entries, is_sending, is_sent, link_of_hop, sent_entry, taken_entry, timetable, wire_entries}
 use Rattle.vw_prog.proofs.LinkPasses.{place_carries, turn_of}
 use Rattle.vw_net.proofs.ListParts.{all_append, all_flat_map}
 use Rattle.vw_net.proofs.SortedLists.{all_sorted}
@@ -28,7 +28,7 @@ module _ (planned : PlannedBoard) (sound : IsSound planned) (number : ℕ) (link
   abbrev links : List Link
   links = planned.board.links
 
-  its_link : (hop : Hop) → has_pin links hop ≡ true → link_place links hop ≡ number → carries hop link ≡ true
+  its_link : (hop : Hop) → has_pin links hop ≡ true → link_of_hop links hop ≡ number → carries hop link ≡ true
   its_link hop pin at = place_carries links hop link pin (ap (slice_get links) at ∙ there)
 
   -- the pin of a hop is one of its link
@@ -53,7 +53,7 @@ module _ (planned : PlannedBoard) (sound : IsSound planned) (number : ℕ) (link
     slot_of net hop has = le_from (is_slot (sent_entry links net hop)) (share_pin the_hop hop) (λ is.
         let entry = sent_entry links net hop in
         let parts = and_parts (is_sent number entry) (eqb hop.pin pin && eqb (3 * hop.at + 1) (3 * at + 1)) is in
-        let place : link_place links hop ≡ number = eqb-true (link_place links hop) number (and_parts (is_sending entry) (eqb (link_place links hop) number) parts.0).1 in
+        let place : link_of_hop links hop ≡ number = eqb-true (link_of_hop links hop) number (and_parts (is_sending entry) (eqb (link_of_hop links hop) number) parts.0).1 in
         let ends = and_parts (eqb link.from hop.from) (eqb link.to hop.to) (its_link hop has place) in
         let slot = and_parts (eqb hop.pin pin) (eqb (3 * hop.at + 1) (3 * at + 1)) parts.1 in
         let moment : 3 * hop.at + 1 ≡ 3 * at + 1 = eqb-true (3 * hop.at + 1) (3 * at + 1) slot.1 in
@@ -131,7 +131,7 @@ module _ (planned : PlannedBoard) (sound : IsSound planned) (number : ℕ) (link
       let has = its_pin 0 0 place wire is at_hop hop here in
       let taken = taken_entry links wire.net hop in
       let turn : taken.moment % 3 ≡ 2 = omega arith in
-      (λ sent. pin_within hop has (its_link hop has (eqb-true (link_place links hop) number (and_parts (is_sending (sent_entry links wire.net hop)) (eqb (link_place links hop) number) sent).1)), (no_send_narrow taken (turn_of (taken.moment % 3) 2 1 turn (omega arith)), tt))))))
+      (λ sent. pin_within hop has (its_link hop has (eqb-true (link_of_hop links hop) number (and_parts (is_sending (sent_entry links wire.net hop)) (eqb (link_of_hop links hop) number) sent).1)), (no_send_narrow taken (turn_of (taken.moment % 3) 2 1 turn (omega arith)), tt))))))
 
   -- ---- in so many microcycles from one on
 

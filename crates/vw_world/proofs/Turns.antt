@@ -14,7 +14,7 @@ use Rattle.vw_prog.specs.declared.entry.Entry.{Entry}
 use Rattle.vw_prog.specs.declared.job.Job.{Job}
 use Rattle.vw_prog.specs.declared.word.Word.{Word}
 use Rattle.vw_prog.specs.Actions.{action_of, actions}
-use Rattle.vw_prog.specs.Ends.{IsExpected, IsNextWord, SeenEnds, counted}
+use Rattle.vw_prog.specs.Ends.{IsExpected, IsNextWord, SeenEnds, counted_at}
 use Rattle.vw_prog.specs.Scripts.{planned_of, script, script_before}
 use Rattle.vw_prog.specs.Timetable.{entries_at, is_sent, timetable}
 use Rattle.vw_node.specs.declared.step.Step.{Step}
@@ -22,7 +22,7 @@ use Rattle.vw_node.specs.declared.step.Step.TheVariants.{Done, Empty, Full, Move
 use Rattle.vw_node.specs.Holding.{HoldsValues}
 use Rattle.vw_node.specs.Moves.{Makes, Steps, is_moved}
 use Rattle.vw_node.specs.Positions.{Agrees, sent_by, taken_by}
-use Rattle.vw_node.specs.States.{NodeState, evaluated, moved, next_action, stepped, written}
+use Rattle.vw_node.specs.States.{NodeState, evaluated, moved_on, next_action, stepped, written}
 use Rattle.vw_node.proofs.EntryKinds.{evaluates, next_entry, sends, takes}
 use Rattle.vw_node.proofs.NodeSteps.{empty_agrees, evaluated_agrees, full_agrees, is_expected, sent_agrees, sent_next, stepped_agrees, taken_agrees}
 use Rattle.vw_node.proofs.Words.{all_sent}
@@ -71,28 +71,28 @@ module _ (node : ℕ) (state : NodeState) (before : SeenEnds) (agree : Agrees be
       let if_step = λ (last : (state.made ≡ length own) × (action.Evaluate gate ≡ action.Step)). let no : ⊥ = cc (last.1) in absurd no in
       ⊎_elim if_entry if_step (next_entry (planned_of own_job) node state.made agree.holds.under (action.Evaluate gate) now.1)
 
-  pub send_next : (link pin net : ℕ) → next_action own_job node state ≡ Some (action.Send link pin net) → IsNextWord before link (sent_word own_job state pin net) × Agrees own_job node (moved state) (record before { sent = counted link before.sent })
+  pub send_next : (link pin net : ℕ) → next_action own_job node state ≡ Some (action.Send link pin net) → IsNextWord before link (sent_word own_job state pin net) × Agrees own_job node (moved_on state) (record before { sent = counted_at link before.sent })
   send_next link pin net is =
       let now = open_next (action.Send link pin net) is in
       let if_entry = λ (found : (entry : Entry) × ((slice_get own state.made ≡ Some entry) × (action.Send link pin net ≡ action_of inputs entry))).
       let kind = sends inputs link pin net found.0 found.1.1 in
       let next : IsNextWord before link (sent_word own_job state pin net) = sent_next before node state agree now.0 found.0 found.1.0 link pin net kind.0 kind.1 kind.2 kind.3 (sent_word own_job state pin net) refl refl refl refl in
-      let later : Agrees own_job node (moved state) (record before { sent = counted link before.sent }) = sent_agrees before node state agree now.0 found.0 found.1.0 link pin net kind.0 kind.1 kind.2 kind.3 in
-      let both : IsNextWord before link (sent_word own_job state pin net) × Agrees own_job node (moved state) (record before { sent = counted link before.sent }) = (next, later) in
+      let later : Agrees own_job node (moved_on state) (record before { sent = counted_at link before.sent }) = sent_agrees before node state agree now.0 found.0 found.1.0 link pin net kind.0 kind.1 kind.2 kind.3 in
+      let both : IsNextWord before link (sent_word own_job state pin net) × Agrees own_job node (moved_on state) (record before { sent = counted_at link before.sent }) = (next, later) in
       both in
       let if_step = λ (last : (state.made ≡ length own) × (action.Send link pin net ≡ action.Step)). let no : ⊥ = cc (last.1) in absurd no in
       ⊎_elim if_entry if_step (next_entry (planned_of own_job) node state.made agree.holds.under (action.Send link pin net) now.1)
 
   pub take_next : (link pin net : ℕ) → next_action own_job node state ≡ Some (action.Take link pin net)
-      → IsExpected before link × ((word : Word) → slice_get (script own_job link) (before.taken link) ≡ Some word → Agrees own_job node (written state net word.bit) (record before { taken = counted link before.taken }))
+      → IsExpected before link × ((word : Word) → slice_get (script own_job link) (before.taken link) ≡ Some word → Agrees own_job node (written state net word.bit) (record before { taken = counted_at link before.taken }))
   take_next link pin net is =
       let now = open_next (action.Take link pin net) is in
       let if_entry = λ (found : (entry : Entry) × ((slice_get own state.made ≡ Some entry) × (action.Take link pin net ≡ action_of inputs entry))).
       let kind = takes inputs link pin net found.0 found.1.1 in
       let expected : IsExpected before link = is_expected before node state agree now.0 found.0 found.1.0 link net kind.0 kind.1 kind.2 in
-      let later : (word : Word) → slice_get (script own_job link) (before.taken link) ≡ Some word → Agrees own_job node (written state net word.bit) (record before { taken = counted link before.taken }) =
+      let later : (word : Word) → slice_get (script own_job link) (before.taken link) ≡ Some word → Agrees own_job node (written state net word.bit) (record before { taken = counted_at link before.taken }) =
       taken_agrees before node state agree now.0 found.0 found.1.0 link net kind.0 kind.1 kind.2 in
-      let both : IsExpected before link × ((word : Word) → slice_get (script own_job link) (before.taken link) ≡ Some word → Agrees own_job node (written state net word.bit) (record before { taken = counted link before.taken })) = (expected, later) in
+      let both : IsExpected before link × ((word : Word) → slice_get (script own_job link) (before.taken link) ≡ Some word → Agrees own_job node (written state net word.bit) (record before { taken = counted_at link before.taken })) = (expected, later) in
       both in
       let if_step = λ (last : (state.made ≡ length own) × (action.Take link pin net ≡ action.Step)). let no : ⊥ = cc (last.1) in absurd no in
       ⊎_elim if_entry if_step (next_entry (planned_of own_job) node state.made agree.holds.under (action.Take link pin net) now.1)
@@ -111,10 +111,10 @@ module _ (node : ℕ) (state : NodeState) (before : SeenEnds) (agree : Agrees be
           by gate net link pin false false is = cc
 
   -- a link of which the node is an end is no other node's
-  apart_from : (link number : ℕ) (counts : ℕ → ℕ) → (number ≡ link → ⊥) → counted link counts number ≡ counts number
+  apart_from : (link number : ℕ) (counts : ℕ → ℕ) → (number ≡ link → ⊥) → counted_at link counts number ≡ counts number
   apart_from link number counts apart = ap (λ (own : Bool). if own then counts number + 1 else counts number) (ne_eqb number link apart)
 
-  send_turned : (link pin net : ℕ) → next_action own_job node state ≡ Some (action.Send link pin net) → Turned own_job node (moved state) before (record before { sent = counted link before.sent })
+  send_turned : (link pin net : ℕ) → next_action own_job node state ≡ Some (action.Send link pin net) → Turned own_job node (moved_on state) before (record before { sent = counted_at link before.sent })
   send_turned link pin net is =
       let next = send_next link pin net is in
       let from : (link_at own_job link).from ≡ node = ap (λ (one : Link). one.from) (its_link own_job link next.0.leaves.0 next.0.leaves.1) ∙ next.0.leaves.2 ∙ agree.same_node in
@@ -127,7 +127,7 @@ module _ (node : ℕ) (state : NodeState) (before : SeenEnds) (agree : Agrees be
       }
 
   take_turned : (link pin net : ℕ) (word : Word) → next_action own_job node state ≡ Some (action.Take link pin net) → slice_get (script own_job link) (before.taken link) ≡ Some word
-      → Turned own_job node (written state net word.bit) before (record before { taken = counted link before.taken })
+      → Turned own_job node (written state net word.bit) before (record before { taken = counted_at link before.taken })
   take_turned link pin net word is there =
       let next = take_next link pin net is in
       let to : (link_at own_job link).to ≡ node = ap (λ (one : Link). one.to) (its_link own_job link next.0.reaches.0 next.0.reaches.1) ∙ next.0.reaches.2 ∙ agree.same_node in
@@ -141,7 +141,7 @@ module _ (node : ℕ) (state : NodeState) (before : SeenEnds) (agree : Agrees be
 
   moved_turned : (next : Action) (new : NodeState) (after : SeenEnds) → next_action own_job node state ≡ Some next → Makes own_job node state new before after next → Turned own_job node new before after
   moved_turned (action.Evaluate gate) new after is makes = subst (λ (one : NodeState). Turned own_job node one before after) (sym makes.0) (subst (λ (one : SeenEnds). Turned own_job node (evaluated (planned_of own_job) gate state) before one) (sym makes.1) (evaluate_turned gate is))
-  moved_turned (action.Send link pin net) new after is makes = subst (λ (one : NodeState). Turned own_job node one before after) (sym makes.0) (subst (λ (one : SeenEnds). Turned own_job node (moved state) before one) (sym makes.1.ends) (send_turned link pin net is))
+  moved_turned (action.Send link pin net) new after is makes = subst (λ (one : NodeState). Turned own_job node one before after) (sym makes.0) (subst (λ (one : SeenEnds). Turned own_job node (moved_on state) before one) (sym makes.1.ends) (send_turned link pin net is))
   moved_turned (action.Take link pin net) new after is makes = subst (λ (one : NodeState). Turned own_job node one before after) (sym makes.1) (subst (λ (one : SeenEnds). Turned own_job node (written state net makes.0.bit) before one) (sym makes.2.0) (take_turned link pin net makes.0 is makes.2.1))
   moved_turned action.Step new after is makes = subst (λ (one : NodeState). Turned own_job node one before after) (sym makes.0) (subst (λ (one : SeenEnds). Turned own_job node (stepped own_job node state) before one) (sym makes.1) (step_turned is))
 
@@ -255,9 +255,9 @@ module _ (job : Job) (world : WorldState) (kept : IsKept job world) (node : ℕ)
   by_action found new is turned_nodes = ap (λ (one : WorldState). one.nodes) (happens_acts found is) ∙ turned_nodes
 
   sent_nodes : (link pin net : ℕ) (open_room : Bool) → nat_lt (length (words_at world link)) (capacity (link_at job link)) ≡ open_room
-      → (acts job world node state (Some (action.Send link pin net))).nodes ≡ (if open_room then set world.nodes node (moved state) else world.nodes)
-  sent_nodes link pin net true is = ap (λ (open_room : Bool). (if open_room then with_both world node (moved state) link (words_at world link ++ sent_word job state pin net ∷ []) else world).nodes) is
-  sent_nodes link pin net false is = ap (λ (open_room : Bool). (if open_room then with_both world node (moved state) link (words_at world link ++ sent_word job state pin net ∷ []) else world).nodes) is
+      → (acts job world node state (Some (action.Send link pin net))).nodes ≡ (if open_room then set world.nodes node (moved_on state) else world.nodes)
+  sent_nodes link pin net true is = ap (λ (open_room : Bool). (if open_room then with_both world node (moved_on state) link (words_at world link ++ sent_word job state pin net ∷ []) else world).nodes) is
+  sent_nodes link pin net false is = ap (λ (open_room : Bool). (if open_room then with_both world node (moved_on state) link (words_at world link ++ sent_word job state pin net ∷ []) else world).nodes) is
 
   taken_nodes : (link net : ℕ) (word : Word) → link < length world.links → slice_get (script job link) (taken_at job world link) ≡ Some word → taken_at job world link < sent_at job world link
       → (words : List Word) → words ≡ words_at world link → (taken_front world node state link net words).nodes ≡ set world.nodes node (written state net word.bit)
@@ -319,7 +319,7 @@ module _ (job : Job) (world : WorldState) (kept : IsKept job world) (node : ℕ)
       let within = low link there.0 there.1 in
       let room : nat_lt (length (words_at world link)) (capacity (link_at job link)) ≡ false = sym (room_is link within) ∙ sym (steps.4.room are.told) in
       let stays : happens job world node ≡ world = happens_acts (Some (action.Send link steps.0 steps.1)) steps.2
-      ∙ ap (λ (open_room : Bool). if open_room then with_both world node (moved state) link (words_at world link ++ sent_word job state steps.0 steps.1 ∷ []) else world) room in
+      ∙ ap (λ (open_room : Bool). if open_room then with_both world node (moved_on state) link (words_at world link ++ sent_word job state steps.0 steps.1 ∷ []) else world) room in
       let shut : IsAble job world node → ⊥ = closed (Some (action.Send link steps.0 steps.1)) steps.2 (λ (less : length (words_at world link) < capacity (link_at job link)). true≢false (sym (lt-ltb (length (words_at world link)) (capacity (link_at job link)) less) ∙ room)) in
       let whole : (new ≡ state) × ((happens job world node ≡ world) × (IsAble job world node → ⊥)) = (steps.3, (stays, shut)) in whole
   refused_same (Empty link) new after stops steps =

@@ -3,12 +3,12 @@ use Rattle.std.specs.Prelude.{◌≡◌, ◌<◌, ◌+◌, ℕ, suc, true, List,
 use Rattle.vw_prog.specs.declared.job.Job.{Job}
 use Rattle.vw_prog.specs.Ends.{SeenEnds}
 use Rattle.vw_node.specs.declared.node.Node.{Node}
-use Rattle.vw_node.specs.Fits.{IsFit, state_of}
+use Rattle.vw_node.specs.Fits.{FitsJob, state_of}
 use Rattle.vw_node.specs.Left.{left}
 use Rattle.vw_node.specs.Lists.{tabulate}
 use Rattle.vw_node.specs.States.{NodeState, start_state}
 use Rattle.vw_world.specs.Kept.{IsKept, sent_at, taken_at}
-use Rattle.vw_world.specs.Lanes.{SeenLanes, ends_of, words_of}
+use Rattle.vw_world.specs.Lanes.{SeenLanes, ends_of, lane_words}
 use Rattle.vw_world.specs.Worlds.{WorldState, capacity, link_at}
 
 -- the ends of a node's links are those of a world, and tell all
@@ -22,13 +22,13 @@ pub record AreEnds (job : Job) (world : WorldState) (node : ℕ) (ends : SeenEnd
 
 -- the world of some nodes and links in memory
 abbrev pub world_of : List Node → SeenLanes → WorldState
-world_of nodes all = record { nodes = map state_of nodes; links = words_of all.lanes }
+world_of nodes all = record { nodes = map state_of nodes; links = lane_words all.lanes }
 
 -- each node is the one with its number, and has what it needs; the links stand where the nodes do
 pub record IsBoard (job : Job) (nodes : List Node) (all : SeenLanes) : Type 0 where
   pub same : all.job ≡ job
   pub numbers : (node : ℕ) (there : Node) → slice_get nodes node ≡ Some there → there.share.node ≡ node
-  pub fits : (node : ℕ) (there : Node) → slice_get nodes node ≡ Some there → IsFit job there
+  pub fits : (node : ℕ) (there : Node) → slice_get nodes node ≡ Some there → FitsJob job there
   pub kept : IsKept job (world_of nodes all)
   pub ends : AreEnds job (world_of nodes all) all.node (ends_of all)
 
@@ -40,5 +40,5 @@ lefts job first (state ∷ states) = left job first state + lefts job (suc first
 -- so many nodes of a job, before their first actions
 pub record AreNodes (job : Job) (count : ℕ) (nodes : List Node) : Type 0 where
   pub numbers : (node : ℕ) (there : Node) → slice_get nodes node ≡ Some there → there.share.node ≡ node
-  pub fits : (node : ℕ) (there : Node) → slice_get nodes node ≡ Some there → IsFit job there
+  pub fits : (node : ℕ) (there : Node) → slice_get nodes node ≡ Some there → FitsJob job there
   pub states : map state_of nodes ≡ tabulate (start_state job) count

@@ -40,8 +40,8 @@ ends_of all = record {
 }
 
 -- the words on each link
-abbrev pub words_of : List SeenLane → List (List Word)
-words_of lanes = map (λ lane. lane.words) lanes
+abbrev pub lane_words : List SeenLane → List (List Word)
+lane_words lanes = map (λ lane. lane.words) lanes
 
 -- a link has the words of its script from those taken to those sent
 pub record IsLane (job : Job) (link : ℕ) (lane : SeenLane) : Type 0 where

@@ -13,5 +13,5 @@ abbrev pub start_of : Job → SeenWorld
 start_of job = record { job = job; state = start_world job }
 
 -- all nodes have finished all clocks
-abbrev pub IsDone : SeenWorld → Type 0
-IsDone world = (node : ℕ) → node < length world.state.nodes → (node_at world.state node).clock ≡ length world.job.rows
+abbrev pub AreAllDone : SeenWorld → Type 0
+AreAllDone world = (node : ℕ) → node < length world.state.nodes → (node_at world.state node).clock ≡ length world.job.rows

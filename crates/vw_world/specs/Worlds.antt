@@ -8,7 +8,7 @@ use Rattle.vw_prog.specs.declared.job.Job.{Job}
 use Rattle.vw_prog.specs.declared.word.Word.{Word}
 use Rattle.vw_prog.specs.Scripts.{planned_of}
 use Rattle.vw_node.specs.Lists.{tabulate}
-use Rattle.vw_node.specs.States.{NodeState, evaluated, moved, next_action, slot, start_state, stepped, written}
+use Rattle.vw_node.specs.States.{NodeState, evaluated, moved_on, next_action, slot, start_state, stepped, written}
 
 pub record WorldState : Type 0 where
   pub nodes : List NodeState
@@ -50,7 +50,7 @@ acts job world node state None = world
 acts job world node state (Some (Evaluate gate)) = with_node world node (evaluated (planned_of job) gate state)
 acts job world node state (Some (Send link pin net)) =
     if nat_lt (length (words_at world link)) (capacity (link_at job link))
-    then with_both world node (moved state) link (words_at world link ++ sent_word job state pin net ∷ []) else world
+    then with_both world node (moved_on state) link (words_at world link ++ sent_word job state pin net ∷ []) else world
 acts job world node state (Some (Take link pin net)) = taken_front world node state link net (words_at world link)
 acts job world node state (Some Step) = with_node world node (stepped job node state)
 

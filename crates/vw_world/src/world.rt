@@ -3,7 +3,7 @@ ghost use Rattle.vw_net.specs.History.{outputs_of, state_after, states_of};
 ghost use Rattle.vw_prog.specs.Actions.{ArePrograms};
 ghost use Rattle.vw_prog.specs.Scripts.{planned_of};
 ghost use Rattle.vw_world.specs.Kept.{IsKept};
-ghost use Rattle.vw_world.specs.Seen.{IsDone, start_of};
+ghost use Rattle.vw_world.specs.Seen.{AreAllDone, start_of};
 ghost use Rattle.vw_world.specs.Worlds.{node_at, played, words_at};
 
 use crate::board::{finish, play};
@@ -75,7 +75,7 @@ impl<'a> World<'a> {
         ensures job { self.new.job ≡ self.old.job }
         ensures leads { (events : List ℕ)
             × (self.new.state ≡ played self.old.job self.old.state events) }
-        ensures done { IsDone self.new }
+        ensures done { AreAllDone self.new }
     {
         let clocks = self.job.share(0).clocks;
         finish(&mut self.nodes, &mut self.lanes, clocks);
@@ -84,7 +84,7 @@ impl<'a> World<'a> {
     /// What the job came to: the outputs and the latch values of each clock, and the latch values after the last. It takes no
     /// memory.
     pub fn into_answer(self) -> Answer
-        requires { IsDone self }
+        requires { AreAllDone self }
         ensures outputs { result.outputs ≡ outputs_of self.entry.job.checked.ordered.flat
             self.entry.job.start self.entry.job.rows }
         ensures latches { result.latches ≡ states_of self.entry.job.checked.ordered.flat

@@ -26,8 +26,8 @@ fn numbers_of(alloc: Global, world: &World<'_>) -> Result<Vec<u64>, AllocError> 
 
 /// Puts the bits of rows behind others.
 fn add_rows(rows: &Rows, bits: &mut Vec<bool>) -> Result<(), AllocError> {
-    for row in rows.as_slice() {
-        bits.extend_from_slice(row.as_slice())?;
+    for place in 0..rows.len() {
+        bits.extend_from_slice(rows.row(place))?;
     }
     Ok(())
 }

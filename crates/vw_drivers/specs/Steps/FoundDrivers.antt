@@ -15,7 +15,7 @@ use Rattle.vw_drivers.specs.Names.{firsts_of}
 use Rattle.vw_drivers.specs.declared.source.Source.{Source}
 use Rattle.vw_drivers.specs.declared.source.Source.TheVariants.{Port, Cell}
 use Rattle.vw_drivers.specs.declared.tables.Tables.{Tables}
-use Rattle.vw_drivers.specs.Tables.{AreTables}
+use Rattle.vw_drivers.specs.Tables.{AreDesignTables}
 use Rattle.vw_drivers.specs.Drivers.{at_rows}
 
 -- rows of drivers
@@ -24,7 +24,7 @@ DriverRows = List (List (Option Source))
 
 -- what holds of each design of which these are the tables
 abbrev pub OfTables : Tables → (Design → Type 0) → Type 0
-OfTables tables Holds = (design : Design) → HasNoModelFault design → AreTables design tables → Holds design
+OfTables tables Holds = (design : Design) → HasNoModelFault design → AreDesignTables design tables → Holds design
 
 -- what stands before an item of a model
 abbrev pub before_of : Tables → ℕ → ℕ → Option Before

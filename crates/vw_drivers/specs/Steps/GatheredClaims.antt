@@ -59,15 +59,15 @@ with_claim item name claim claims = record {
   again = if has_claim claims.firsts name then option_or claims.again (Some (record { item = item; name = name })) else claims.again;
 }
 
-abbrev pub with_all : ℕ → List First → ModelClaims → ModelClaims
-with_all item [] claims = claims
-with_all item (further ∷ more) claims = with_all item more (with_claim item further.name further.claim claims)
+abbrev pub with_first_claims : ℕ → List First → ModelClaims → ModelClaims
+with_first_claims item [] claims = claims
+with_first_claims item (further ∷ more) claims = with_first_claims item more (with_claim item further.name further.claim claims)
 
 -- items from a number on
-abbrev pub with_items : Design → ℕ → ℕ → List Item → ModelClaims → ModelClaims
-with_items design number before [] claims = claims
-with_items design number before (item ∷ items) claims =
-    with_items design (suc number) (and_behind item before) items (with_all number (item_made design number before item) claims)
+abbrev pub with_item_claims : Design → ℕ → ℕ → List Item → ModelClaims → ModelClaims
+with_item_claims design number before [] claims = claims
+with_item_claims design number before (item ∷ items) claims =
+    with_item_claims design (suc number) (and_behind item before) items (with_first_claims number (item_made design number before item) claims)
 
 -- the ports alone
 abbrev pub ports_only : Model → ModelClaims

@@ -2,7 +2,7 @@
 use Rattle.vw_design.specs.declared.design.Design.{Design}
 use Rattle.vw_design.specs.Accepted.{IsAccepted}
 use Rattle.vw_instances.specs.Tables.{AreCellSites}
-use Rattle.vw_drivers.specs.Tables.{AreTables, root_firsts}
+use Rattle.vw_drivers.specs.Tables.{AreDesignTables, root_firsts}
 use Rattle.vw_drivers.specs.Drivers.{AreDrivers}
 use Rattle.vw_nets.specs.declared.columns.Columns.{Columns}
 use Rattle.vw_nets.specs.Columns.{AreColumns}
@@ -10,7 +10,7 @@ use Rattle.vw_elab.specs.declared.parts.NumberedParts.{NumberedParts}
 
 -- instances, cells and drivers by numbers
 pub record AreDesignParts (design : Design) (parts : NumberedParts) : Type 0 where
-  pub tables : AreTables design parts.tables
+  pub tables : AreDesignTables design parts.tables
   pub cells : AreCellSites design parts.cells
   pub drivers : AreDrivers design parts.tables parts.drivers
 

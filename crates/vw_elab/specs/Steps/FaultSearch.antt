@@ -2,7 +2,7 @@
 use Rattle.std.specs.Prelude.{◌≡◌, List, None, Result, Ok, Err}
 use Rattle.vw_design.specs.declared.design.Design.{Design}
 use Rattle.vw_design.specs.Paths.{Word}
-use Rattle.vw_design.specs.ModelFaults.{unknown_model, IsModelCircle, unknown_formal, unbound_input, both_ways}
+use Rattle.vw_design.specs.ModelFaults.{unknown_model, IsModelCircle, unknown_formal, unbound_input, port_both_ways}
 use Rattle.vw_design.specs.ModelNumbers.{AreTargets}
 use Rattle.vw_design.specs.NetFaults.{undriven, two_drivers}
 use Rattle.vw_design.specs.Accepted.{HasNoModelFault}
@@ -21,7 +21,7 @@ pub record HasBindings (design : Design) : Type 0 where
   pub models : HasKnownModels design
   pub formals_known : unknown_formal design ≡ None
   pub inputs_bound : unbound_input design ≡ None
-  pub one_way : both_ways design ≡ None
+  pub one_way : port_both_ways design ≡ None
 
 -- the numbers of the models that models place, and the sizes of a design without a fault of its models
 pub record AreModelTables (design : Design) (models : Models) : Type 0 where

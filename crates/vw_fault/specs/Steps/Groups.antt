@@ -1,5 +1,5 @@
 -- Faults that are graded together.
-use Rattle.std.specs.Prelude.{ℕ, ◌+◌, Bool, not, List, [], ◌∷◌, length, filter, if◌then◌else◌}
+use Rattle.std.specs.Prelude.{ℕ, ◌+◌, Bool, not, List, [], ◌∷◌, length, take, filter, if◌then◌else◌}
 use Rattle.vw_net.specs.TruthTable.{bit_of}
 use Rattle.vw_fault.specs.declared.grading.Grading.{Grading}
 use Rattle.vw_fault.specs.declared.open.Open.{Open}
@@ -9,9 +9,16 @@ use Rattle.vw_fault.specs.Stuck.{is_detected}
 abbrev pub net_count : Grading → ℕ
 net_count grading = grading.ordered.now.flat.inputs + length grading.ordered.now.flat.cells
 
+-- the rows that are run, and the outputs of their clocks where nothing is stuck
+abbrev pub rows_of : Grading → List (List Bool)
+rows_of grading = take grading.count grading.rows.now
+
+abbrev pub plain_of : Grading → List (List Bool)
+plain_of grading = take grading.count grading.plain.now
+
 -- whether the rows reveal a fault
 abbrev pub is_seen : Grading → Open → Bool
-is_seen grading fault = is_detected grading.ordered.now.flat grading.start.now grading.rows.now fault
+is_seen grading fault = is_detected grading.ordered.now.flat grading.start.now (rows_of grading) fault
 
 -- the faults that they don't reveal
 abbrev pub open_of : Grading → List Open → List Open

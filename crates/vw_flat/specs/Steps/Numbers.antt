@@ -18,9 +18,9 @@ number_by count (Some drivers.Clock) = None
 number_by count (Some (drivers.Cell cell)) = Some (count + cell)
 
 -- a number, where there is one, has 32 bits
-abbrev pub IsSmall : Option ℕ → Type 0
-IsSmall None = Unit {0}
-IsSmall (Some number) = number < 2 ^ 32
+abbrev pub Has32Bits : Option ℕ → Type 0
+Has32Bits None = Unit {0}
+Has32Bits (Some number) = number < 2 ^ 32
 
 -- a driver has a number
 pub record HasNumber (count : ℕ) (driver : Option Driver) : Type 0 where

@@ -16,14 +16,14 @@ pub record AreWithin (targets : Targets) : Type 0 where
   pub within : (number place placed : ℕ) → PlacesAt targets number place placed → placed < length targets
 
 -- a test that number 0 passes, and with a model those that it places
-pub record IsClosed (targets : Targets) (test : ℕ → Bool) : Type 0 where
+pub record IsClosedByPlacing (targets : Targets) (test : ℕ → Bool) : Type 0 where
   pub root : IsTrue (test 0)
   pub placed : (number place placed : ℕ) → IsTrue (test number) → PlacesAt targets number place placed → IsTrue (test placed)
 
 -- each of some numbers is reached from 0: it passes whatever is closed
 abbrev pub AreReached : Targets → List ℕ → Type 0
 AreReached targets numbers =
-    (test : ℕ → Bool) → IsClosed targets test → (number : ℕ) → IsTrue (is_among numbers number) → IsTrue (test number)
+    (test : ℕ → Bool) → IsClosedByPlacing targets test → (number : ℕ) → IsTrue (is_among numbers number) → IsTrue (test number)
 
 -- numbers, with one more where it isn't among them, and with those that a model places
 abbrev pub with_number : List ℕ → ℕ → List ℕ
@@ -41,5 +41,5 @@ AreFlagged numbers flags = (number : ℕ) → slice_index_or flags number false 
 -- the flags of all that is reached, and of nothing else
 pub record AreReachFlags (targets : Targets) (flags : List Bool) : Type 0 where
   pub each : length flags ≡ length targets
-  pub closed : IsClosed targets (λ number. slice_index_or flags number false)
-  pub reached : (test : ℕ → Bool) → IsClosed targets test → (number : ℕ) → IsTrue (slice_index_or flags number false) → IsTrue (test number)
+  pub closed : IsClosedByPlacing targets (λ number. slice_index_or flags number false)
+  pub reached : (test : ℕ → Bool) → IsClosedByPlacing targets test → (number : ℕ) → IsTrue (slice_index_or flags number false) → IsTrue (test number)

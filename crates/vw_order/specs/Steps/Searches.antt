@@ -36,15 +36,15 @@ abbrev pub IsDepthSearch : Graph → DepthSearch → Type 0
 IsDepthSearch graph depth = IsSearch graph depth.progress.items depth.cursors.items depth.order.items depth.stack.items
 
 -- what was done or open is done or open
-abbrev pub IsKept : DepthSearch → DepthSearch → Type 0
-IsKept old new =
+abbrev pub KeepsNumbers : DepthSearch → DepthSearch → Type 0
+KeepsNumbers old new =
     (number : ℕ) → IsTrue (is_among (old.order.items ++ old.stack.items) number) → IsTrue (is_among (new.order.items ++ new.stack.items) number)
 
 -- nothing is open, and what was done or open is done
 pub record IsAtRest (graph : Graph) (old new : DepthSearch) : Type 0 where
   pub depth : IsDepthSearch graph new
   pub rests : new.stack.items ≡ []
-  pub kept : IsKept old new
+  pub kept : KeepsNumbers old new
 
 -- a search that has gone on rests, or has found a circle
 abbrev pub IsGoneOn : Graph → DepthSearch → DepthSearch → Option (Vec ℕ) → Type 0

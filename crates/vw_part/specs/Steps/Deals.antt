@@ -37,16 +37,16 @@ pub record IsDeal (board : Board) (cell_nets : CellNets) (chip_of : List ℕ) (l
   pub held : (chip : ℕ) (default : Load) → chip ≤ board.chips → IsLoad cell_nets chip_of chip (slice_index_or loads chip default)
 
 -- the nets of a cell
-abbrev pub nets_at : CellNets → ℕ → List ℕ
-nets_at cell_nets cell = slice_index_or cell_nets.of_cells.items cell []
+abbrev pub cell_nets_at : CellNets → ℕ → List ℕ
+cell_nets_at cell_nets cell = slice_index_or cell_nets.of_cells.items cell []
 
 -- of its nets, how many only this cell of its chip drives or reads
 abbrev pub freed : CellNets → List ℕ → ℕ → ℕ
-freed cell_nets chip_of cell = sum_by (λ net. one_if (cells_held chip_of cell_nets.of_cells.items (slice_index chip_of cell) net == 1)) (nets_at cell_nets cell)
+freed cell_nets chip_of cell = sum_by (λ net. one_if (cells_held chip_of cell_nets.of_cells.items (slice_index chip_of cell) net == 1)) (cell_nets_at cell_nets cell)
 
 -- of its nets, how many some cell of a chip drives or reads
 abbrev pub met : CellNets → List ℕ → ℕ → ℕ → ℕ
-met cell_nets chip_of cell chip = sum_by (λ net. one_if (nat_lt 0 (cells_held chip_of cell_nets.of_cells.items chip net))) (nets_at cell_nets cell)
+met cell_nets chip_of cell chip = sum_by (λ net. one_if (nat_lt 0 (cells_held chip_of cell_nets.of_cells.items chip net))) (cell_nets_at cell_nets cell)
 
 -- a chip to which a cell may be moved: another one, with room
 pub record MayMoveTo (board : Board) (chip_of : List ℕ) (cell chip : ℕ) : Type 0 where
@@ -56,7 +56,7 @@ pub record MayMoveTo (board : Board) (chip_of : List ℕ) (cell chip : ℕ) : Ty
 
 -- a move there lowers the spread: more of the cell's nets are freed or met than it has
 abbrev pub Helps : CellNets → List ℕ → ℕ → ℕ → Type 0
-Helps cell_nets chip_of cell chip = length (nets_at cell_nets cell) < freed cell_nets chip_of cell + met cell_nets chip_of cell chip
+Helps cell_nets chip_of cell chip = length (cell_nets_at cell_nets cell) < freed cell_nets chip_of cell + met cell_nets chip_of cell chip
 
 -- a move that is allowed, and lowers the spread
 pub record IsGain (board : Board) (cell_nets : CellNets) (chip_of : List ℕ) (cell chip : ℕ) : Type 0 where

@@ -4,7 +4,7 @@ use Rattle.std.specs.Prelude.{◌≡◌, ◌≤◌, ◌==◌, ℕ, List, length,
 use Rattle.vw_plan.specs.declared.board.Board.{Board}
 use Rattle.vw_part.specs.declared.load.Load.{Load}
 use Rattle.vw_part.specs.declared.cell_nets.CellNets.{CellNets}
-use Rattle.vw_part.specs.Steps.Deals.{nets_at}
+use Rattle.vw_part.specs.Steps.Deals.{cell_nets_at}
 use Rattle.vw_net.specs.Steps.Bits.{one_if}
 
 -- how many of some nets are held at all, where this many cells hold each net
@@ -19,9 +19,9 @@ lone_among held nets = sum_by (λ net. one_if (held net == 1)) nets
 -- chip those that only this cell has there
 pub record AreGains (cell_nets : CellNets) (chip_of : List ℕ) (chip : ℕ) (load : Load) (frees : List ℕ) : Type 0 where
   pub met_long : length load.met.counts.items ≡ length cell_nets.of_cells.items
-  pub met : (cell : ℕ) → slice_index load.met.counts.items cell ≡ met_among (λ net. slice_index load.held.counts.items net) (nets_at cell_nets cell)
+  pub met : (cell : ℕ) → slice_index load.met.counts.items cell ≡ met_among (λ net. slice_index load.held.counts.items net) (cell_nets_at cell_nets cell)
   pub freed_long : length frees ≡ length cell_nets.of_cells.items
-  pub freed : (cell : ℕ) → slice_index chip_of cell ≡ chip → slice_index frees cell ≡ lone_among (λ net. slice_index load.held.counts.items net) (nets_at cell_nets cell)
+  pub freed : (cell : ℕ) → slice_index chip_of cell ≡ chip → slice_index frees cell ≡ lone_among (λ net. slice_index load.held.counts.items net) (cell_nets_at cell_nets cell)
 
 -- so it is for each chip of a board
 abbrev pub KeepsGains : Board → CellNets → List ℕ → List Load → List ℕ → Type 0

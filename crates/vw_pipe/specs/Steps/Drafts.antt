@@ -10,7 +10,7 @@ use Rattle.vw_plan.specs.Nets.{greatest_read, node_of}
 use Rattle.vw_plan.specs.Routes.{steps_of}
 use Rattle.vw_slots.specs.Slots.{no_slots}
 use Rattle.vw_pipe.specs.declared.draft.Draft.{Draft}
-use Rattle.vw_pipe.specs.Steps.SentHops.{AreLinked, AreSent, taken_by}
+use Rattle.vw_pipe.specs.Steps.SentHops.{AreLinked, AreSent, hop_takes}
 use Rattle.vw_pipe.specs.Steps.Leads.{lead_so_far, usable_so_far}
 
 -- how late the microcycles of a draft may be that has so many taken slots
@@ -45,7 +45,7 @@ pub record IsSentMore (board : Board) (route : Route) (number ready : ℕ) (old 
   pub soon : All (λ hop. arrival board.links hop + 1 ≤ ready + length (steps_of route.nodes) * (2 ^ 30 + 16)) (hops_at new number)
   pub arrivals : new.arrivals.items ≡ map (after_last board.links) new.hops.items
   pub widths : new.table.widths ≡ old.table.widths
-  pub taken : new.table.taken ≡ old.table.taken ++ map (taken_by board) (hops_at new number)
+  pub taken : new.table.taken ≡ old.table.taken ++ map (hop_takes board) (hops_at new number)
   pub last : new.after ≡ max old.after (after_last board.links (hops_at new number))
 
 -- one draft is another, but for the lead of one gate
@@ -59,14 +59,14 @@ pub record HasLead (ordered : Ordered) (board : Board) (chip_of : List ℕ) (rou
       (greatest_read (lead_so_far ordered.flat board chip_of routes old.hops.items old.leads.items (slice_index chip_of number)) (slice_get ordered.flat.cells number))
 
 -- what a task makes of a draft
-abbrev pub Does : Ordered → Board → List ℕ → List Route → Bool → ℕ → Draft → Draft → Type 0
-Does ordered board chip_of routes false place old new = HasLead ordered board chip_of routes place old new
-Does ordered board chip_of routes true number old new =
+abbrev pub DoesTask : Ordered → Board → List ℕ → List Route → Bool → ℕ → Draft → Draft → Type 0
+DoesTask ordered board chip_of routes false place old new = HasLead ordered board chip_of routes place old new
+DoesTask ordered board chip_of routes true number old new =
     (route : Route) → slice_get routes number ≡ Some route
     → IsSentMore board route number (usable_so_far ordered.flat board chip_of routes old.hops.items old.leads.items (node_of ordered.flat chip_of route.net) route.net) old new
 
 -- a draft is as long as it has to be, it has the arrivals of its hops, and its microcycles are early
-pub record IsFit (ordered : Ordered) (board : Board) (routes : List Route) (draft : Draft) : Type 0 where
+pub record IsFitDraft (ordered : Ordered) (board : Board) (routes : List Route) (draft : Draft) : Type 0 where
   pub nets : length draft.leads.items ≡ ordered.flat.inputs + length ordered.flat.cells
   pub long : length draft.hops.items ≡ length routes
   pub arrivals : draft.arrivals.items ≡ map (after_last board.links) draft.hops.items
@@ -83,5 +83,5 @@ IsReadyKind ordered board routes true number draft =
     × ((first : ℕ) (further : List ℕ) → route.nodes ≡ first ∷ further → AreLinked board.links first further))
 
 pub record IsDraftReady (ordered : Ordered) (board : Board) (routes : List Route) (sends : Bool) (place : ℕ) (draft : Draft) : Type 0 where
-  pub fit : IsFit ordered board routes draft
+  pub fit : IsFitDraft ordered board routes draft
   pub its : IsReadyKind ordered board routes sends place draft

@@ -17,11 +17,11 @@ use Rattle.vw_plan.specs.Routes.{steps_of}
 use Rattle.vw_plan.specs.PlannedBoard.{PlannedBoard, home, planned_board}
 use Rattle.vw_plan.specs.Sound.{IsSentWhenUsable, has_pin, rises, share_pin}
 use Rattle.vw_pipe.specs.declared.draft.Draft.{Draft}
-use Rattle.vw_pipe.specs.Steps.Drafts.{IsFit}
+use Rattle.vw_pipe.specs.Steps.Drafts.{IsFitDraft}
 use Rattle.vw_pipe.specs.Steps.Leads.{usable_so_far, wires_of}
 
 -- a plan has these chips, and wires with these hops
-pub record IsMadeOf (chip_of : List ℕ) (routes : List Route) (hops : List (List Hop)) (plan : Plan) : Type 0 where
+pub record IsPlanOf (chip_of : List ℕ) (routes : List Route) (hops : List (List Hop)) (plan : Plan) : Type 0 where
   pub chips : plan.chip_of ≡ chip_of
   pub wires : plan.wires ≡ wires_of routes hops
 
@@ -46,11 +46,11 @@ pub record IsSentWell (planned : PlannedBoard) (wire : Wire) : Type 0 where
   pub earliest : AreEarliest planned.board planned.plan (usable planned (home planned wire.net) wire.net) wire.hops
 
 pub record IsTasksDone (ordered : Ordered) (board : Board) (chip_of : List ℕ) (routes : List Route) (draft : Draft) : Type 0 where
-  pub fit : IsFit ordered board routes draft
+  pub fit : IsFitDraft ordered board routes draft
   pub along : AllZip (IsAlong board) routes draft.hops.items
   pub once : (hop : Hop) → uses hop (all_hops draft.hops.items) ≤ 1
-  pub sent_well : (plan : Plan) → IsMadeOf chip_of routes draft.hops.items plan → All (IsSentWell (planned_board ordered board plan)) plan.wires
-  pub leads : (plan : Plan) → IsMadeOf chip_of routes draft.hops.items plan → (net : ℕ) → net < ordered.flat.inputs + length ordered.flat.cells
+  pub sent_well : (plan : Plan) → IsPlanOf chip_of routes draft.hops.items plan → All (IsSentWell (planned_board ordered board plan)) plan.wires
+  pub leads : (plan : Plan) → IsPlanOf chip_of routes draft.hops.items plan → (net : ℕ) → net < ordered.flat.inputs + length ordered.flat.cells
       → let planned = planned_board ordered board plan in lead planned (home planned net) net ≡ slice_index draft.leads.items net
   pub last : draft.after ≡ greatest (map (after_last board.links) draft.hops.items)
 

@@ -6,7 +6,7 @@ use Rattle.vw_plan.specs.declared.wire.Hop.{Hop}
 use Rattle.vw_pipe.specs.declared.draft.Draft.{Draft}
 use Rattle.vw_pipe.specs.declared.given.Given.{Given}
 use Rattle.vw_pipe.specs.Steps.FinishedSchedules.{IsTasksDone, cell_microcycle}
-use Rattle.vw_pipe.specs.Steps.Drafts.{Does, IsFit, IsDraftReady, IsUntouched}
+use Rattle.vw_pipe.specs.Steps.Drafts.{DoesTask, IsFitDraft, IsDraftReady, IsUntouched}
 use Rattle.vw_pipe.specs.Steps.Leads.{lead_so_far, usable_so_far}
 
 -- how many nets there are
@@ -31,7 +31,7 @@ IsUntouchedFor given draft = IsUntouched given.ordered.now given.board.now given
 
 -- a draft is as long as it has to be, and its microcycles are early
 abbrev pub IsFitFor : Given → Draft → Type 0
-IsFitFor given draft = IsFit given.ordered.now given.board.now given.routes.now draft
+IsFitFor given draft = IsFitDraft given.ordered.now given.board.now given.routes.now draft
 
 -- what a task needs of a draft
 abbrev pub IsReadyFor : Given → Bool → ℕ → Draft → Type 0
@@ -39,7 +39,7 @@ IsReadyFor given sends place draft = IsDraftReady given.ordered.now given.board.
 
 -- what a task makes of a draft
 abbrev pub DoesFor : Given → Bool → ℕ → Draft → Draft → Type 0
-DoesFor given sends place old new = Does given.ordered.now given.board.now given.chip_of.now given.routes.now sends place old new
+DoesFor given sends place old new = DoesTask given.ordered.now given.board.now given.chip_of.now given.routes.now sends place old new
 
 -- all is done but the period
 abbrev pub IsDoneFor : Given → Draft → Type 0

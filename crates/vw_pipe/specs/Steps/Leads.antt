@@ -13,10 +13,10 @@ abbrev pub route_pairs : List Route → List (ℕ × ℕ)
 route_pairs routes = map (λ route. (route.net, route.to)) routes
 
 -- the hops of the first route that brings a net to a node; none where there is no such route
-abbrev pub hops_to : List Route → List (List Hop) → ℕ → ℕ → List Hop
-hops_to [] hops node net = []
-hops_to (route ∷ routes) [] node net = []
-hops_to (route ∷ routes) (sent ∷ hops) node net = if route.net == net && route.to == node then sent else hops_to routes hops node net
+abbrev pub route_hops_to : List Route → List (List Hop) → ℕ → ℕ → List Hop
+route_hops_to [] hops node net = []
+route_hops_to (route ∷ routes) [] node net = []
+route_hops_to (route ∷ routes) (sent ∷ hops) node net = if route.net == net && route.to == node then sent else route_hops_to routes hops node net
 
 -- the wires of some routes with these hops
 abbrev pub wires_of : List Route → List (List Hop) → List Wire
@@ -26,7 +26,7 @@ wires_of (route ∷ routes) (sent ∷ hops) = record { net = route.net; to = rou
 
 -- one past the arrival of a net at a node, by the hops of routes; 0 where there are none
 abbrev pub arrived_by : Board → List Route → List (List Hop) → ℕ → ℕ → ℕ
-arrived_by board routes hops net node = after_last board.links (hops_to routes hops node net)
+arrived_by board routes hops net node = after_last board.links (route_hops_to routes hops node net)
 
 -- the lead of a net at a node, from leads at their own nodes and hops
 abbrev pub lead_so_far : Flat → Board → List ℕ → List Route → List (List Hop) → List ℕ → ℕ → ℕ → ℕ

@@ -24,14 +24,14 @@ abbrev pub slots_of : Board → List Taken → Slots
 slots_of board taken = record { widths = map (λ link. link.width) board.links; taken = taken; spare = 0 }
 
 -- what a hop takes
-abbrev pub slot_of : Hop → Slot
-slot_of hop = record { pin = hop.pin; at = hop.at }
+abbrev pub hop_slot : Hop → Slot
+hop_slot hop = record { pin = hop.pin; at = hop.at }
 
 abbrev pub hop_link : Board → Hop → ℕ
 hop_link board hop = link_place board.links hop.from hop.to
 
-abbrev pub taken_by : Board → Hop → Taken
-taken_by board hop = record { link = hop_link board hop; pin = hop.pin; at = hop.at }
+abbrev pub hop_takes : Board → Hop → Taken
+hop_takes board hop = record { link = hop_link board hop; pin = hop.pin; at = hop.at }
 
 -- hops go these steps, one after the other: each takes the first free slot of its link, the first of them not before a
 -- microcycle, and each later one not before the one before it has arrived
@@ -40,5 +40,5 @@ AreSent board taken ready [] [] = Unit {0}
 AreSent board taken ready [] (hop ∷ hops) = ⊥
 AreSent board taken ready (step ∷ steps) [] = ⊥
 AreSent board taken ready (step ∷ steps) (hop ∷ hops) =
-    ((hop.from, hop.to) ≡ step) × IsFirstFree (slots_of board taken) (hop_link board hop) ready (slot_of hop)
-    × AreSent board (taken ++ taken_by board hop ∷ []) (arrival board.links hop + 1) steps hops
+    ((hop.from, hop.to) ≡ step) × IsFirstFree (slots_of board taken) (hop_link board hop) ready (hop_slot hop)
+    × AreSent board (taken ++ hop_takes board hop ∷ []) (arrival board.links hop + 1) steps hops

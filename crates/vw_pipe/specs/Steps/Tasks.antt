@@ -17,15 +17,15 @@ all_tasks ordered turns routes =
     ++ tasks_from (λ route. slice_index turns route.net) true 0 routes
 
 -- leads come before hops
-abbrev pub rank : Bool → ℕ
-rank false = 0
-rank true = 1
+abbrev pub task_rank : Bool → ℕ
+task_rank false = 0
+task_rank true = 1
 
 -- a task comes before another, or is the same
 pub record IsAtMost (task other : Task) : Type 0 where
   pub turns : task.turn ≤ other.turn
-  pub kinds : task.turn ≡ other.turn → rank task.sends ≤ rank other.sends
-  pub places : task.turn ≡ other.turn → rank task.sends ≡ rank other.sends → task.place ≤ other.place
+  pub kinds : task.turn ≡ other.turn → task_rank task.sends ≤ task_rank other.sends
+  pub places : task.turn ≡ other.turn → task_rank task.sends ≡ task_rank other.sends → task.place ≤ other.place
 
 -- each task comes before all later ones
 abbrev pub AreRising : List Task → Type 0

@@ -11,20 +11,20 @@ use Rattle.vw_net.specs.Lists.{greatest}
 use Rattle.vw_plan.specs.Nets.{driving_cell, greatest_read, node_of}
 use Rattle.vw_plan.specs.Routes.{steps_of}
 use Rattle.vw_slots.specs.declared.slot.Taken.{Taken}
-use Rattle.vw_slots.specs.Slots.{is_taken}
+use Rattle.vw_slots.specs.Slots.{is_pin_taken}
 use Rattle.vw_pipe.specs.declared.draft.Draft.{Draft}
 use Rattle.vw_pipe.specs.declared.task.Task.{Task}
-use Rattle.vw_pipe.specs.Steps.SentHops.{AreSent, hop_link, taken_by}
+use Rattle.vw_pipe.specs.Steps.SentHops.{AreSent, hop_link, hop_takes}
 use Rattle.vw_pipe.specs.Steps.FinishedSchedules.{all_hops, uses}
-use Rattle.vw_pipe.specs.Steps.Drafts.{IsFit, hops_at}
+use Rattle.vw_pipe.specs.Steps.Drafts.{IsFitDraft, hops_at}
 use Rattle.vw_pipe.specs.Steps.Leads.{lead_so_far, usable_so_far}
-use Rattle.vw_pipe.specs.Steps.Tasks.{AreRising, rank}
+use Rattle.vw_pipe.specs.Steps.Tasks.{AreRising, task_rank}
 
 -- ---- which tasks are done
 
 -- whether a task is this one
 abbrev pub is_task : Bool → ℕ → Task → Bool
-is_task sends place task = rank task.sends == rank sends && task.place == place
+is_task sends place task = task_rank task.sends == task_rank sends && task.place == place
 
 -- whether a task is among the first so many
 abbrev pub is_passed : List Task → ℕ → Bool → ℕ → Bool
@@ -67,11 +67,11 @@ ready_by ordered board chip_of routes hops leads net = usable_so_far ordered.fla
 pub record IsSentOff (ordered : Ordered) (board : Board) (chip_of : List ℕ) (routes : List Route) (draft : Draft) (route : Route) (hops : List Hop) : Type 0 where
   pub before : List Taken
   pub sent : AreSent board before (ready_by ordered board chip_of routes draft.hops.items draft.leads.items route.net) (steps_of route.nodes) hops
-  pub stays : (link pin at : ℕ) → is_taken (before ++ map (taken_by board) hops) link pin at ≡ true → is_taken draft.table.taken link pin at ≡ true
+  pub stays : (link pin at : ℕ) → is_pin_taken (before ++ map (hop_takes board) hops) link pin at ≡ true → is_pin_taken draft.table.taken link pin at ≡ true
 
 -- so many tasks are done
 pub record IsUnderway (ordered : Ordered) (board : Board) (chip_of : List ℕ) (routes : List Route) (tasks : List Task) (count : ℕ) (draft : Draft) : Type 0 where
-  pub fit : IsFit ordered board routes draft
+  pub fit : IsFitDraft ordered board routes draft
   pub none : (number : ℕ) → is_passed tasks count true number ≡ false → hops_at draft number ≡ []
   pub sent : (number : ℕ) (route : Route) → slice_get routes number ≡ Some route → is_passed tasks count true number ≡ true → IsSentOff ordered board chip_of routes draft route (hops_at draft number)
   pub worked : (place : ℕ) → place < length ordered.order → is_passed tasks count false place ≡ true
@@ -79,4 +79,4 @@ pub record IsUnderway (ordered : Ordered) (board : Board) (chip_of : List ℕ) (
   pub zero : (net : ℕ) → is_gate (driving_cell ordered.flat net) ≡ false → slice_index draft.leads.items net ≡ 0
   pub last : draft.after ≡ greatest (map (after_last board.links) draft.hops.items)
   pub size : length draft.table.taken ≡ length (all_hops draft.hops.items)
-  pub slots : (hop : Hop) → uses hop (all_hops draft.hops.items) ≡ (if is_taken draft.table.taken (hop_link board hop) hop.pin hop.at then 1 else 0)
+  pub slots : (hop : Hop) → uses hop (all_hops draft.hops.items) ≡ (if is_pin_taken draft.table.taken (hop_link board hop) hop.pin hop.at then 1 else 0)

@@ -6,12 +6,12 @@ use Rattle.vw_plan.specs.declared.board.Board.{Board}
 use Rattle.vw_place.specs.Numbering.{IsNumbering}
 
 -- the number that a node has by a list of numbers; a node past the end of the list keeps its own
-abbrev pub moved : List ℕ → ℕ → ℕ
-moved at node = slice_index_or at node node
+abbrev pub renumbered_node : List ℕ → ℕ → ℕ
+renumbered_node at node = slice_index_or at node node
 
 -- a list of the nodes of a board in some order, as a numbering
 pub record IsNodeList (board : Board) (at : List ℕ) : Type 0 where
   pub long : length at ≡ board.chips + 1
   pub moves : IsPermutation (range_with_len 0 (board.chips + 1)) at
   pub from : ℕ → ℕ
-  pub numbering : IsNumbering board.chips (moved at) from
+  pub numbering : IsNumbering board.chips (renumbered_node at) from

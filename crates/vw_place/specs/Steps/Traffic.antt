@@ -7,7 +7,7 @@ use Rattle.vw_plan.specs.declared.need.Need.{Need}
 use Rattle.vw_plan.specs.Distance.{distance}
 use Rattle.vw_plan.specs.Needs.{needed_pairs}
 use Rattle.vw_plan.specs.Nets.{node_of}
-use Rattle.vw_place.specs.Steps.NodeLists.{moved}
+use Rattle.vw_place.specs.Steps.NodeLists.{renumbered_node}
 
 -- whether a needed pair goes from a node to another
 abbrev pub goes : Flat → List ℕ → ℕ → ℕ → Need → Bool
@@ -25,7 +25,7 @@ pub record IsTraffic (flat : Flat) (chip_of table : List ℕ) : Type 0 where
 
 -- how far the pairs between two nodes go, with nodes numbered by a list
 abbrev pub travel_between : List ℕ → Board → List ℕ → ℕ → ℕ → ℕ
-travel_between table board at from to = slice_index table (from * 33 + to) * distance board (moved at from) (moved at to)
+travel_between table board at from to = slice_index table (from * 33 + to) * distance board (renumbered_node at from) (renumbered_node at to)
 
 -- those from a node to the nodes before one
 abbrev pub travel_from : List ℕ → Board → List ℕ → ℕ → ℕ → ℕ

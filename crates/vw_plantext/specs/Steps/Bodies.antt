@@ -29,8 +29,8 @@ pub record BodyState : Type 0 where
 abbrev pub part_of : OpenWire → UnfinishedWire
 part_of wire = record { net = wire.net; to = wire.to; hops = wire.hops.items; left = wire.left }
 
-abbrev pub state_of : Body → BodyState
-state_of body = record { chip_of = body.chip_of.items; period = body.period; wires = body.wires.items; part = option_map part_of body.wire; left = body.left; room = body.room }
+abbrev pub body_state : Body → BodyState
+body_state body = record { chip_of = body.chip_of.items; period = body.period; wires = body.wires.items; part = option_map part_of body.wire; left = body.left; room = body.room }
 
 -- one more hop
 abbrev pub part_with_hop : UnfinishedWire → Hop → UnfinishedWire

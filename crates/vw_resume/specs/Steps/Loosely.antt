@@ -14,12 +14,12 @@ abbrev pub behind_space : List ℕ → List ℕ
 behind_space text = after_first is_space text
 
 -- the bit that a character names, where it names one
-abbrev pub bit_in : ℕ → List Bool
-bit_in b = if b == 48 then false ∷ [] else (if b == 49 then true ∷ [] else [])
+abbrev pub bits_named : ℕ → List Bool
+bits_named b = if b == 48 then false ∷ [] else (if b == 49 then true ∷ [] else [])
 
 -- the third word as a number, and the bits that are named behind the fourth
 abbrev pub clock_in : List ℕ → ℕ
 clock_in text = unwrap_or (spelled_number (before_space (behind_space (behind_space text)))) 0
 
 abbrev pub latches_in : List ℕ → List Bool
-latches_in text = flat_map bit_in (behind_space (behind_space (behind_space (behind_space text))))
+latches_in text = flat_map bits_named (behind_space (behind_space (behind_space (behind_space text))))

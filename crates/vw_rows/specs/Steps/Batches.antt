@@ -7,28 +7,29 @@ use Rattle.vw_rows.specs.declared.fault.StimFault.{StimFault}
 use Rattle.vw_rows.specs.declared.scan.Adds.{Adds}
 use Rattle.vw_rows.specs.declared.batch.Batch.{Batch}
 use Rattle.vw_rows.specs.Stimulus.{line_words, rows_added, last_row, within_run, behind, rows_of_lines, is_text_fault}
+use Rattle.vw_rows.specs.Standing.{IsFoundIn}
 use Rattle.vw_rows.specs.Steps.Lines.{IsLine}
-use Rattle.vw_rows.specs.Steps.Scans.{count_of, rows_by, AddsToRun, IsReadSoFar}
+use Rattle.vw_rows.specs.Steps.Scans.{rows_from_line, rows_by, AddsToRun, IsReadSoFar}
 use Rattle.vw_rows.specs.declared.limits.TheConstants.{MOST_CLOCKS, MOST_STIMULUS_BYTES}
 
 -- the rows of a batch and the copies that are owed, where this is the row before them
 abbrev pub all_rows : List Bool → Batch → List (List Bool)
-all_rows before batch = batch.rows.items ++ replicate batch.owed (last_row before batch.rows.items)
+all_rows before batch = batch.rows ++ replicate batch.owed (last_row before batch.rows)
 
 -- no more rows than are wanted, and no copy is owed where there are fewer
 pub record IsPaid (batch : Batch) : Type 0 where
-  pub within : length batch.rows.items ≤ batch.wanted
-  pub paid : length batch.rows.items < batch.wanted → batch.owed ≡ 0
+  pub within : length batch.rows ≤ batch.wanted
+  pub paid : length batch.rows < batch.wanted → batch.owed ≡ 0
 
 -- the numbers of a batch are within their limits
-pub record IsFit (batch : Batch) : Type 0 where
+pub record HasFitNumbers (batch : Batch) : Type 0 where
   pub rows : IsPaid batch
   pub few : batch.scan.clocks ≤ MOST_CLOCKS
   pub kept : batch.scan.line.kept ≡ batch.scan.width
   pub places : batch.at ≤ batch.read
   pub limit : batch.read ≤ MOST_STIMULUS_BYTES
   pub number : batch.scan.number ≤ batch.at + 1
-  pub settled : length batch.rows.items ≡ batch.wanted → batch.at ≡ batch.read
+  pub settled : length batch.rows ≡ batch.wanted → batch.at ≡ batch.read
 
 -- the rows alone change
 pub record KeepsPlaces (old new : Batch) : Type 0 where
@@ -59,7 +60,7 @@ pub record EndsCounted (before : List Bool) (old new : Batch) : Type 0 where
   pub kept : new.scan.line.kept ≡ old.scan.line.kept
   pub width : new.scan.width ≡ old.scan.width
   pub number : new.scan.number ≡ old.scan.number + 1
-  pub clocks : new.scan.clocks ≡ old.scan.clocks + count_of adds
+  pub clocks : new.scan.clocks ≡ old.scan.clocks + rows_from_line adds
   pub few : new.scan.clocks ≤ MOST_CLOCKS
   pub at : new.at ≡ old.read
   pub read : new.read ≡ old.read
@@ -99,7 +100,7 @@ pub record GathersFront (before : List Bool) (piece : List ℕ) (old new : Batch
   pub cut : piece ≡ gone ++ rest
   pub gathers : GathersFurther before gone old new
   pub read : new.read ≡ old.read + length gone
-  pub whole : length new.rows.items < new.wanted → rest ≡ []
+  pub whole : length new.rows < new.wanted → rest ≡ []
 
 abbrev pub TakesPieceOf : List Bool → List ℕ → Batch → Batch → Result (Unit {0}) StimFault → Type 0
 TakesPieceOf before piece old new (Ok _) = GathersFront before piece old new
@@ -121,18 +122,19 @@ pub record IsAtLine (before : List Bool) (start origin : ℕ) (total : List ℕ 
   pub number : batch.scan.number ≡ start + length lines
   pub left : total text ≡ behind (all_rows before batch) (rows_of_lines batch.scan.width batch.scan.number batch.scan.clocks (last_row before (all_rows before batch)) (text_lines (drop at text)))
 
--- the text has ended with the last line, or it has fewer rows than are wanted
+-- the text has ended with the last line, or it is at fault, or has fewer rows than are wanted
 abbrev pub EndsTextOf : List Bool → Batch → Batch → Result (Unit {0}) StimFault → Type 0
 EndsTextOf before old new (Ok _) = (base start origin : ℕ) (total : List ℕ → Result (List (List Bool)) StimFault) (read : List ℕ)
     → IsGathered before base start origin total read old → HasItsRows before base new × IsAtLine before start origin total read new
 EndsTextOf before old new (Err fault) = is_text_fault fault ≡ true → (base start origin : ℕ) (total : List ℕ → Result (List (List Bool)) StimFault) (read : List ℕ)
-    → IsGathered before base start origin total read old → length read < 2 ^ 62 → (all : List (List Bool)) → total read ≡ Ok all → length all < old.wanted
+    → IsGathered before base start origin total read old → length read < 2 ^ 62 → IsFoundIn old.wanted start read fault (total read)
 
--- the rows that are wanted were read, or the text has fewer or is at fault
+-- the rows that are wanted were read; or bytes were, that have fewer or are at fault
 abbrev pub GathersOf : Told → List Bool → Batch → Batch → Result (Unit {0}) StimFault → Type 0
 GathersOf told before old new (Ok _) = (base start : ℕ) (total : List ℕ → Result (List (List Bool)) StimFault)
     → IsGathered before base start old.read total [] old
     → HasItsRows before base new × ((text : List ℕ) → told ≡ held text → old.read ≤ length text → IsAtLine before start old.read total (drop old.read text) new)
 GathersOf told before old new (Err fault) = is_text_fault fault ≡ true → (base start : ℕ) (total : List ℕ → Result (List (List Bool)) StimFault)
     → IsGathered before base start old.read total [] old
-    → (text : List ℕ) → told ≡ held text → old.read ≤ length text → (all : List (List Bool)) → total (drop old.read text) ≡ Ok all → length all < old.wanted
+    → ((bytes : List ℕ) × IsFoundIn old.wanted start bytes fault (total bytes))
+    × ((text : List ℕ) → told ≡ held text → old.read ≤ length text → (all : List (List Bool)) → total (drop old.read text) ≡ Ok all → length all < old.wanted)

@@ -20,8 +20,8 @@ abbrev pub IsSolid : List ℕ → Type 0
 IsSolid part = All (λ b. is_blank b ≡ false) part
 
 -- a count that stays at the end of its type
-abbrev pub counted : ℕ → ℕ
-counted number = min number (2 ^ 64 - 1)
+abbrev pub counted_to_limit : ℕ → ℕ
+counted_to_limit number = min number (2 ^ 64 - 1)
 
 -- a word spells a row, and isn't `hold`
 pub record SpellsRow (word : List ℕ) (row : List Bool) : Type 0 where
@@ -31,9 +31,9 @@ pub record SpellsRow (word : List ℕ) (row : List Bool) : Type 0 where
 -- this is said where these words are done and this is the front of a further one, with the row so far
 abbrev pub IsSaid : Said → List (List ℕ) → List ℕ → List Bool → Type 0
 IsSaid Nothing done part row = (done ≡ []) × (part ≡ []) × (row ≡ [])
-IsSaid (Bits count) done part row = (done ≡ []) × (is_bits part ≡ true) × (row ≡ map (λ b. b == 49) part) × (count ≡ counted (length row))
+IsSaid (Bits count) done part row = (done ≡ []) × (is_bits part ≡ true) × (row ≡ map (λ b. b == 49) part) × (count ≡ counted_to_limit (length row))
 IsSaid Dash done part row = (done ≡ []) × (part ≡ codes "-") × (row ≡ [])
-IsSaid (Row count) done part row = (word : List ℕ) × (done ≡ word ∷ []) × (part ≡ []) × SpellsRow word row × (count ≡ counted (length row))
+IsSaid (Row count) done part row = (word : List ℕ) × (done ≡ word ∷ []) × (part ≡ []) × SpellsRow word row × (count ≡ counted_to_limit (length row))
 IsSaid (Letters count) done part row = (done ≡ []) × (part ≡ take count (codes "hold")) × (0 < count) × (count ≤ 4) × (row ≡ [])
 IsSaid Hold done part row = (done ≡ codes "hold" ∷ []) × (part ≡ []) × (row ≡ [])
 IsSaid (Number times) done part row = (done ≡ codes "hold" ∷ []) × (is_number part ≡ true) × (value_from 0 part ≡ times) × (times ≤ MOST_CLOCKS) × (row ≡ [])

@@ -10,10 +10,10 @@ use Rattle.vw_rows.specs.Steps.Lines.{IsLine}
 use Rattle.vw_rows.specs.declared.limits.TheConstants.{MOST_CLOCKS}
 
 -- how many rows a line adds
-abbrev pub count_of : Adds → ℕ
-count_of Nothing = 0
-count_of Row = 1
-count_of (Copies times) = times
+abbrev pub rows_from_line : Adds → ℕ
+rows_from_line Nothing = 0
+rows_from_line Row = 1
+rows_from_line (Copies times) = times
 
 -- the rows that a line adds, where it spells this row, or the row before it is this
 abbrev pub rows_by : Adds → List Bool → List Bool → List (List Bool)
@@ -50,7 +50,7 @@ pub record AddsToRun (scan : Scan) (adds : Adds) (line : List ℕ) : Type 0 wher
 -- the line is counted, or is at fault
 abbrev pub EndsLine : Scan → Scan → Result Adds StimFault → Type 0
 EndsLine old new (Ok adds) = ((line : List ℕ) → IsLine line old.line → AddsToRun old adds line)
-    × (new ≡ record { line = old.line; width = old.width; number = old.number; clocks = old.clocks + count_of adds })
+    × (new ≡ record { line = old.line; width = old.width; number = old.number; clocks = old.clocks + rows_from_line adds })
 EndsLine old new (Err fault) = (line : List ℕ) → IsLine line old.line → length line < 2 ^ 63
     → (before : List Bool) → within_run old.clocks (rows_added old.width old.number before (line_words line)) ≡ Err fault
 

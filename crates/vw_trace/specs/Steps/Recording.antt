@@ -7,7 +7,7 @@ use Rattle.vw_outside.specs.Reads.{SeenShelf}
 use Rattle.vw_outside.specs.Writes.{SeenSink, appended, WritesOut}
 use Rattle.vw_rows.specs.declared.stimulus.Stimulus.{Stimulus}
 use Rattle.vw_trace.specs.declared.fault.RunFault.{RunFault}
-use Rattle.vw_trace.specs.Recorded.{ended}
+use Rattle.vw_trace.specs.Recorded.{no_more_clocks}
 use Rattle.vw_trace.specs.Streamed.{MayBeRows, EndsStreaming, DoneFor, EndsAt}
 
 -- where a recording stands: the number of the next clock, the latch values before it, and the text that is left, given what the
@@ -27,9 +27,9 @@ pub record RecordsOut (flat : Flat) (rows : List (List Bool)) (old : Point) (lef
       ≡ text ++ left_new (flat_history flat (state_after flat old.state rows) more))
 
 -- what it leaves of the shelf and the sink, where all of a text but the rest was to be written
-abbrev pub EndsClocks : List ℕ → List ℕ → List ℕ → SeenShelf → SeenSink → SeenShelf → SeenSink → Result (Unit {0}) RunFault → Type 0
-EndsClocks name text rest shelf out shelf_after out_after (Ok done) = (shelf_after ≡ shelf) × (front : List ℕ) × (out_after ≡ appended out front) × (front ++ rest ≡ text)
-EndsClocks name text rest shelf out shelf_after out_after (Err fault) = EndsStreaming name text shelf out shelf_after out_after (Err fault)
+abbrev pub EndsRecording : List ℕ → List ℕ → List ℕ → SeenShelf → SeenSink → SeenShelf → SeenSink → Result (Unit {0}) RunFault → Type 0
+EndsRecording name text rest shelf out shelf_after out_after (Ok done) = (shelf_after ≡ shelf) × (front : List ℕ) × (out_after ≡ appended out front) × (front ++ rest ≡ text)
+EndsRecording name text rest shelf out shelf_after out_after (Err fault) = EndsStreaming name text shelf out shelf_after out_after (Err fault)
 
 -- the clocks of rows that may be those of the stimulus were written down, or the first of them, and what else is done for them was done
 -- meanwhile; where all were, these are its rows, and only what follows the last clock is left
@@ -38,6 +38,6 @@ pub record RecordsClocks (stimulus : Stimulus) (flat : Flat) (start : Point) (la
     (answer : Result (Unit {0}) RunFault) : Type 0 where
   pub rows : List (List Bool)
   pub are : MayBeRows (shelf.told stimulus.name) stimulus.width rows
-  pub ends : EndsClocks stimulus.name (start.left (flat_history flat start.state rows)) (left_after (ended last)) shelf out shelf_after out_after answer
+  pub ends : EndsRecording stimulus.name (start.left (flat_history flat start.state rows)) (left_after (no_more_clocks last)) shelf out shelf_after out_after answer
   pub meanwhile : DoneFor Done rows answer
   pub all : EndsAt flat start.state stimulus.clocks last answer rows

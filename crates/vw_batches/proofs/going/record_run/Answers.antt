@@ -1,5 +1,5 @@
 use Rattle.std.proofs.lemmas.Result.{err_from_is_err_and}
-use Rattle.vw_trace.specs.Recorded.{ended}
+use Rattle.vw_trace.specs.Recorded.{no_more_clocks}
 use Rattle.vw_prog.specs.Scripts.{planned_of}
 use Rattle.vw_trace.proofs.StreamedTexts.{no_clocks, no_end, all_recorded}
 use Rattle.vw_batches.specs.Traffic.{HaveCarried}
@@ -39,7 +39,7 @@ returns-in_err-put_text-clause-streams g c =
     rw (p.1, p.2)
     (no_end stimulus flat (record { clock = g.R.Recorder.clocks recorder; state = c.args.state.now; left = g.R.Recorder.left recorder }) (HaveCarried c.args.crewed.now.workers (planned_of c.args.crewed.now.board.now.job) (g.R.Recorder.clocks c.args.recorder.now) c.args.state.now (g.F.Fabric.carried c.args.crewed.now.fabric.now) (g.F.Fabric.carried c.record_clocks.new.crewed.fabric.now)) shelf out
     last left_after shelf_after (g.O.Sink.seen c.record_clocks.new.out) (g.O.Sink.seen c.put_text.new.out) c.in_ok-record_clocks.ensures.records
-    why (c.in_err-put_text.ensures (left_after (ended last)) c.end-rest.ensures))
+    why (c.in_err-put_text.ensures (left_after (no_more_clocks last)) c.end-rest.ensures))
 
 pub returns-clause-streams : goal.returns-clause-streams
 returns-clause-streams g c =
@@ -53,4 +53,4 @@ returns-clause-streams g c =
     let left_after = g.R.Recorder.left c.record_clocks.new.recorder in
     all_recorded stimulus flat (record { clock = g.R.Recorder.clocks recorder; state = c.args.state.now; left = g.R.Recorder.left recorder }) (HaveCarried c.args.crewed.now.workers (planned_of c.args.crewed.now.board.now.job) (g.R.Recorder.clocks c.args.recorder.now) c.args.state.now (g.F.Fabric.carried c.args.crewed.now.fabric.now) (g.F.Fabric.carried c.record_clocks.new.crewed.fabric.now)) shelf out
     last left_after shelf_after (g.O.Sink.seen c.record_clocks.new.out) (g.O.Sink.seen c.put_text.new.out) c.in_ok-record_clocks.ensures.records
-    (c.in_ok-put_text.ensures (left_after (ended last)) c.end-rest.ensures)
+    (c.in_ok-put_text.ensures (left_after (no_more_clocks last)) c.end-rest.ensures)

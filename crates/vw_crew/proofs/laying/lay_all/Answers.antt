@@ -27,7 +27,7 @@ overflow_cast-place g c =
 
 -- src/laying.rt
 pub loop-number-init : goal.loop-number-init
-loop-number-init g c = record { laying = none_laid c.args.job.now (is_some (g.F.Fabric.carried c.args.fabric.now)) c.args.groups.now c.requires; same = refl }
+loop-number-init g c = record { laying = none_laid c.args.job.now (is_some (g.F.Fabric.carried c.args.fabric.now)) c.args.groups.now c.requires; numbers = refl; same = refl }
 
 -- src/laying.rt
 pub place_put-requires : goal.place_put-requires
@@ -118,6 +118,7 @@ loop-number-preserved g c =
     let rx_kept : rx.keeps ≡ told = ap (λ (end : SeenTakeEnd). end.keeps) rx_is ∙ ap (λ (carried : Carried). is_some carried) c.loop-number.invariant.same in
     record {
       laying = one_laid job told c.loop-number.groups number laying link link_is ends.0 ends.1 putter.0 putter.1 tx tx_sent c.place_put.new.groups put_changes taker.0 taker.1 rx rx_taken rx_kept c.place_take.new.groups take_changes;
+      numbers = take_changes.numbers ∙ put_changes.numbers ∙ c.loop-number.invariant.numbers;
       same = c.lay.ensures.same ∙ c.loop-number.invariant.same;
     }
 
@@ -136,6 +137,10 @@ returns-in-Err-clause-same g c =
     c.lift_all.ensures.carried (λ link. 0) (told, telling, c.loop-number.invariant.laying.hung)
     ∙ carried_same c.args.job.now (λ link. 0) c.loop-number.number (g.F.Fabric.carried c.lay.new.self) (λ number below. refl)
     ∙ c.lay.ensures.same ∙ c.loop-number.invariant.same
+
+-- src/laying.rt
+pub returns-in-Err-clause-numbers : goal.returns-in-Err-clause-numbers
+returns-in-Err-clause-numbers g c = c.lift_all.ensures.numbers ∙ c.loop-number.invariant.numbers
 
 -- src/laying.rt
 pub returns-clause-ready : goal.returns-clause-ready

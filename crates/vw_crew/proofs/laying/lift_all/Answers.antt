@@ -120,3 +120,7 @@ returns-clause-carried g c = λ moved can.
 -- src/laying.rt
 pub returns-clause-nodes : goal.returns-clause-nodes
 returns-clause-nodes g c = (c.loop-number.invariant c.requires.hung.1.0 c.requires.hung.0 c.requires.hung.1.1 c.requires.hung.1.2).nodes
+
+-- src/laying.rt
+pub returns-clause-numbers : goal.returns-clause-numbers
+returns-clause-numbers g c = (c.loop-number.invariant c.requires.hung.1.0 c.requires.hung.0 c.requires.hung.1.1 c.requires.hung.1.2).numbers

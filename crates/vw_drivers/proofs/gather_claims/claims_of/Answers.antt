@@ -6,7 +6,7 @@ use Rattle.vw_design.specs.Paths.{placings}
 use Rattle.vw_design.proofs.PairedLists.{AllZip-length, AllZip-at}
 use Rattle.vw_drivers.specs.declared.model_claims.ModelClaims.{ModelClaims}
 use Rattle.vw_drivers.specs.Claimed.{AreClaims}
-use Rattle.vw_drivers.specs.Steps.GatheredClaims.{with_items, ports_only}
+use Rattle.vw_drivers.specs.Steps.GatheredClaims.{with_item_claims, ports_only}
 use Rattle.vw_design.specs.ModelNumbers.{AreModelNumbers}
 use Rattle.vw_drivers.proofs.ClaimedOnce.{gathered_names}
 use Rattle.vw_drivers.proofs.FirstClaims.{gathered_firsts}
@@ -42,8 +42,8 @@ returns c =
     let at : slice_get design.models number ≡ Some model =
     ap (λ (models : List Model). slice_get models number) (sym c.models.ensures)
     ∙ at_place c.models.result.now number model (omega (arith, c.requires.within, ap (λ (models : List Model). length models) c.models.ensures)) c.index-models-model.is in
-    let gathered : c.add_items.new.self ≡ with_items design 0 0 model.items (ports_only model) =
-    c.in_ok-add_items.ensures ∙ ap₂ (λ (items : List Item) (claims : ModelClaims). with_items design 0 0 items claims) c.items.ensures c.in_ok-claims.ensures in
+    let gathered : c.add_items.new.self ≡ with_item_claims design 0 0 model.items (ports_only model) =
+    c.in_ok-add_items.ensures ∙ ap₂ (λ (items : List Item) (claims : ModelClaims). with_item_claims design 0 0 items claims) c.items.ensures c.in_ok-claims.ensures in
     subst (λ (found : Option Model). AreClaims design found c.add_items.new.self) (sym at)
     (subst (λ (claims : ModelClaims). AreClaims design (Some model) claims) (sym gathered)
     (record { names = gathered_names design model; firsts = gathered_firsts design model; again = gathered_again design model }))

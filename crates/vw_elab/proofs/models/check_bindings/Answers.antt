@@ -1,5 +1,5 @@
 use Rattle.std.proofs.Common.{refl}
-use Rattle.vw_design.specs.ModelFaults.{NameAt, NameOf, unknown_formal, unbound_input, both_ways}
+use Rattle.vw_design.specs.ModelFaults.{NameAt, NameOf, unknown_formal, unbound_input, port_both_ways}
 use Rattle.vw_design.specs.Accepted.{formal_unknown, input_unbound, output_both_ways}
 use Rattle.vw_models.specs.declared.formal_at.FormalAt.{FormalAt}
 use Rattle.vw_models.specs.declared.output_of.OutputOf.{OutputOf}
@@ -33,7 +33,7 @@ returns-in-Some-3 c =
     first_of_models design c.requires.models (output_both_ways (told_output of))
     (nothing_told told_formal c.in_ok-at.field-0 (unknown_formal design) c.in_ok-at.ensures c.in_default.is)
     (nothing_told told_formal c.in_ok-at-2.field-0 (unbound_input design) c.in_ok-at-2.ensures c.in_default-2.is)
-    (told_is told_output c.in_ok-of.field-0 of (both_ways design) c.in_ok-of.ensures c.in-Some-3.is) refl
+    (told_is told_output c.in_ok-of.field-0 of (port_both_ways design) c.in_ok-of.ensures c.in-Some-3.is) refl
 
 pub returns : goal.returns
 returns c =
@@ -42,5 +42,5 @@ returns c =
       models = c.requires.models;
       formals_known = nothing_told told_formal c.in_ok-at.field-0 (unknown_formal design) c.in_ok-at.ensures c.in_default.is;
       inputs_bound = nothing_told told_formal c.in_ok-at-2.field-0 (unbound_input design) c.in_ok-at-2.ensures c.in_default-2.is;
-      one_way = nothing_told told_output c.in_ok-of.field-0 (both_ways design) c.in_ok-of.ensures c.in_default-3.is;
+      one_way = nothing_told told_output c.in_ok-of.field-0 (port_both_ways design) c.in_ok-of.ensures c.in_default-3.is;
     }

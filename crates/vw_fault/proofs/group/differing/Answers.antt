@@ -1,4 +1,4 @@
-use Rattle.std.proofs.Common.{◌<◌, ◌∙◌, ℕ, Bool, false, List, length, get_or, ap, ap₂, sym, arith}
+use Rattle.std.proofs.Common.{◌<◌, ◌∙◌, ℕ, false, length, get_or, ap, ap₂, sym, arith}
 use Rattle.vw_net.specs.TruthTable.{bit_of}
 use Rattle.vw_fault.specs.Steps.Lanes.{lane_bits}
 use Rattle.vw_fault.specs.Stuck.{differ}
@@ -16,7 +16,7 @@ loop-place-preserved c = λ lane low.
     let inside : place < length plain = omega (arith, c.loop-place-test.true, c.requires.plain) in
     let value = λ (net : ℕ). get_or (lane_bits lane words) net false in
     let word = ap (λ (n : ℕ). bit_of n lane) c.get.ensures ∙ sym (lane_at lane words (get_or nets place 0)) in
-    let bit = c.spread.ensures lane low ∙ ap (λ (bits : List Bool). get_or bits place false) c.as_slice-bits.ensures in
+    let bit = c.spread.ensures lane low in
     let here = lane_xor c.get.result c.spread.result lane ∙ ap₂ differ word bit in
     output_further value nets plain place _ _ _ _ c.loop-place-test.true inside here (lane_or c.loop-place.seen _ lane) (c.loop-place.invariant lane low)
 

@@ -6,9 +6,10 @@ use Rattle.vw_fault.specs.Found.{found_outputs}
 use Rattle.vw_fault.specs.Steps.Lanes.{lane_bits}
 use Rattle.vw_fault.proofs.outputs.plain_outputs.Given as goal
 
-abbrev pub invariant-loop-row : goal.invariant-loop-row
-invariant-loop-row l = record {
+abbrev pub invariant-loop-number : goal.invariant-loop-number
+invariant-loop-number l = record {
   latches : length l.state ≡ length l.start;
   nets : length l.words ≡ l.nets;
-  made : l.clocks.items ++ found_outputs as_it_is l.ordered.flat (lane_bits 0 l.state) (drop l.row-index l.rows) ≡ outputs_of l.ordered.flat l.start l.rows;
+  size : length l.bits.items ≡ length l.ordered.flat.outputs;
+  made : l.clocks ++ found_outputs as_it_is l.ordered.flat (lane_bits 0 l.state) (drop l.number l.rows) ≡ outputs_of l.ordered.flat l.start l.rows;
 }

@@ -14,4 +14,4 @@ open_with_unreached-requires-clause-within g c κs within =
     let inputs = c.inputs.ensures ∙ ap (λ (f : Flat). f.inputs) c.flat-flat.ensures in
     let cells = ap length c.cells.ensures ∙ ap (λ (f : Flat). length f.cells) c.flat-flat.ensures in
     let count = ap₂ (λ (i k : ℕ). i + k) inputs cells in
-    subst (All (λ (fault : Open). fault.net < nets)) (sym (c.deref-2.ensures.value ∙ c.in_ok-faults.ensures ∙ ap (gather net_faults) count)) (faults_within nets)
+    subst (All (λ (fault : Open). fault.net < nets)) (sym (c.deref.ensures.value ∙ c.in_ok-faults.ensures ∙ ap (gather net_faults) count)) (faults_within nets)

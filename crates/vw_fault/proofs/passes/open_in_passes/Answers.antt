@@ -1,4 +1,4 @@
-use Rattle.std.proofs.Common.{◌≡◌, List, ◌<◌, All, not, subst, sym, rules}
+use Rattle.std.proofs.Common.{◌≡◌, List, ◌<◌, arith, All, not, subst, sym, rules}
 use Rattle.std.proofs.lemmas.List.Elements.{All-filter}
 use Rattle.vw_fault.specs.declared.open.Open.{Open}
 use Rattle.vw_fault.specs.Steps.Groups.{is_seen, net_count, open_of}
@@ -18,3 +18,8 @@ loop-count-preserved g c =
       within = subst (All fits) (sym are) (All-filter (λ (fault : Open). not (is_seen first fault)) fits left c.loop-count.invariant.within);
       same = pass_further grading first c.loop-count.count c.first_rows.ensures.ordered c.first_rows.ensures.start c.first_rows.ensures.rows left c.in_ok-left.left.items _ are c.loop-count.invariant.same;
     }
+
+-- so many rows more, unless their number has no room left
+pub loop-count-smaller : goal.loop-count-smaller
+loop-count-smaller g c =
+    omega (arith, c.row_count-all.ensures, c.row_count-all.type_inv, c.loop-count.invariant.some, c.loop-count-test.true, c.saturating_mul-count.ensures)

@@ -1,10 +1,10 @@
 -- what is left comes to the same faults
-use Rattle.std.proofs.Common.{◌≡◌, ◌<◌, ◌-◌, length, All}
+use Rattle.std.proofs.Common.{◌≡◌, ◌<◌, ◌-◌, All}
 use Rattle.vw_fault.specs.Steps.Groups.{net_count, open_of}
 use Rattle.vw_fault.proofs.passes.open_in_passes.Given as goal
 
 abbrev pub decreases-loop-count : goal.decreases-loop-count
-decreases-loop-count g l = length l.grading.rows.now - l.count
+decreases-loop-count g l = l.grading.count - l.count
 
 abbrev pub invariant-loop-count : goal.invariant-loop-count
 invariant-loop-count g l = record {

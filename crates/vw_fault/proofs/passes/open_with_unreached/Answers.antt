@@ -2,7 +2,7 @@ use Rattle.std.proofs.Common.{◌≡◌, ◌<◌, ◌∙◌, Bool, List, IfOk, A
 use Rattle.std.proofs.lemmas.List.Elements.{All-filter}
 use Rattle.vw_net.specs.declared.flat.Flat.{Flat}
 use Rattle.vw_fault.specs.declared.open.Open.{Open}
-use Rattle.vw_fault.specs.Reached.{IsClosed}
+use Rattle.vw_fault.specs.Reached.{IsClosedByReading}
 use Rattle.vw_fault.specs.Steps.Groups.{is_seen, net_count}
 use Rattle.vw_fault.specs.Steps.Reaching.{is_marked}
 use Rattle.vw_fault.proofs.Rounds.{unreached_listed}
@@ -20,7 +20,7 @@ returns g c =
     let grading = c.args.grading.now in
     let marks = c.deref-2.result.now in
     let test = λ (fault : Open). not (is_seen grading fault) in
-    let closed = subst (λ (list : List Bool). IsClosed grading.ordered.now.flat (is_marked list)) (sym c.deref-2.ensures.value) (subst (λ (flat : Flat). IsClosed flat (is_marked c.in_ok-marks.marks.items)) c.flat.ensures c.in_ok-marks.ensures) in
+    let closed = subst (λ (list : List Bool). IsClosedByReading grading.ordered.now.flat (is_marked list)) (sym c.deref-2.ensures.value) (subst (λ (flat : Flat). IsClosedByReading flat (is_marked c.in_ok-marks.marks.items)) c.flat.ensures c.in_ok-marks.ensures) in
     let same : c.deref.result.now ≡ marks = c.deref.ensures.value ∙ sym c.deref-2.ensures.value in
     let are = c.deref-3.ensures.value ∙ c.in_ok-left.ensures ∙ ap (filter test) (c.in_ok-reached.ensures ∙ ap (λ (list : List Bool). filter (λ (fault : Open). is_marked list fault.net) c.args.faults.now) same) in
     subst (λ (wanted : List Open). IfOk c.with_unmarked.result (λ all. all.items ≡ wanted)) (unreached_listed grading marks closed c.args.faults.now) (c.with_unmarked.ensures test are)

@@ -3,5 +3,5 @@ use Rattle.std.proofs.Common.{◌≡◌, length}
 use Rattle.std.specs.List.{AllWithin}
 use Rattle.vw_fault_tests.proofs.grading.are_wide.Given as goal
 
-abbrev pub invariant-loop-row : goal.invariant-loop-row
-invariant-loop-row l = AllWithin (λ row. length row ≡ l.width) l.rows 0 l.row-index
+abbrev pub invariant-loop-place : goal.invariant-loop-place
+invariant-loop-place l = AllWithin (λ row. length row ≡ l.width) l.rows 0 l.place

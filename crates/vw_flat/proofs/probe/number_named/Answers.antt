@@ -10,7 +10,7 @@ use Rattle.vw_design.proofs.ListPlaces.{at_within}
 use Rattle.vw_design.proofs.Sizes.{few_columns}
 use Rattle.vw_elab.specs.declared.driver.Driver.{Driver}
 use Rattle.vw_elab.specs.Numbers.{driver_of}
-use Rattle.vw_flat.specs.Steps.Numbers.{number_by, IsSmall, net_count}
+use Rattle.vw_flat.specs.Steps.Numbers.{number_by, Has32Bits, net_count}
 use Rattle.vw_flat.proofs.Readings.{numbers_agree}
 use Rattle.vw_flat.proofs.SearchSteps.{number_fits}
 use Rattle.vw_flat.proofs.probe.number_named.Goals as goal
@@ -21,7 +21,7 @@ module _ (design : Design) (path : Path) (name : Word) where
   same_number count driven counted is =
       ap (λ (n : ℕ). number_by n driven) counted ∙ ap (number_by (length (columns design))) is ∙ numbers_agree design (driver design path name)
 
-  is_small : IsAccepted design → (number : Option ℕ) → number ≡ number_of design path name → IsSmall number
+  is_small : IsAccepted design → (number : Option ℕ) → number ≡ number_of design path name → Has32Bits number
   is_small accepted None is = tt
   is_small accepted (Some number) is =
       omega (arith, number_fits design accepted path name number (sym is), few_columns design, accepted.models.small.inputs, accepted.models.small.cells)

@@ -1,7 +1,7 @@
 use Rattle.std.proofs.Common.{◌∙◌, ◌+◌, ◌*◌, ◌++◌, ◌∷◌, [], ℕ, List, ap}
 use Rattle.std.specs.List.{flat_map, range_with_len}
 use Rattle.vw_gen.specs.Stimulus.{drawn_bits}
-use Rattle.vw_gen.proofs.StatesAfter.{bits_moved, state_after-row}
+use Rattle.vw_gen.proofs.StatesAfter.{bits_moved, drawn_state-row}
 use Rattle.vw_text.proofs.LineTexts.{lines_text-map}
 use Rattle.vw_text.proofs.WrittenPieces.{range_more, range_all}
 use Rattle.vw_gen.proofs.stimuli.stimulus.Goals as goal
@@ -19,7 +19,7 @@ loop-row-preserved c =
     let text = c.loop-row.text.items in (
       range_more (λ (number : ℕ). drawn_bits start (8 * number) ++ 10 ∷ []) row 300 text c.push_bits.new.text.items _ c.loop-row-test.true
           (c.in_ok-push_bits.ensures.text ∙ ap (λ (bits : List ℕ). text ++ (bits ++ 10 ∷ [])) (bits_moved start (8 * row) c.loop-row.draws c.loop-row.invariant.1)) c.loop-row.invariant.0,
-      c.in_ok-push_bits.ensures.draws ∙ state_after-row start row c.loop-row.draws c.loop-row.invariant.1,
+      c.in_ok-push_bits.ensures.draws ∙ drawn_state-row start row c.loop-row.draws c.loop-row.invariant.1,
     )
 
 pub returns : goal.returns

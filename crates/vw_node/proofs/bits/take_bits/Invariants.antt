@@ -1,7 +1,7 @@
 -- the bits so far are those of the slots so far
 use Rattle.std.proofs.Common.{◌≡◌, length, take, map}
-use Rattle.vw_node.specs.Fits.{bit_in}
+use Rattle.vw_node.specs.Fits.{bit_at_slot}
 use Rattle.vw_node.proofs.bits.take_bits.Given as goal
 
 abbrev pub invariant-loop-i : goal.invariant-loop-i
-invariant-loop-i l = (length l.bits ≡ length l.initial.bits) × (take l.i l.bits ≡ map (bit_in l.slots) (take l.i l.reads))
+invariant-loop-i l = (length l.bits ≡ length l.initial.bits) × (take l.i l.bits ≡ map (bit_at_slot l.slots) (take l.i l.reads))

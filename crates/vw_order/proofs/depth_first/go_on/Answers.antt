@@ -9,7 +9,7 @@ use Rattle.vw_order.specs.declared.depth.DepthSearch.{DepthSearch}
 use Rattle.vw_order.specs.Circles.{IsNumberCircle}
 use Rattle.vw_order.specs.Steps.SearchProgress.{is_open_progress}
 use Rattle.vw_order.specs.Steps.Rounds.{round_from}
-use Rattle.vw_order.specs.Steps.Searches.{IsKept, IsSearch}
+use Rattle.vw_order.specs.Steps.Searches.{KeepsNumbers, IsSearch}
 use Rattle.vw_order.proofs.DepthSearches.{IsAtTop, at_top, moved, finished, joined, opened_on, circled, same_search}
 use Rattle.vw_order.proofs.depth_first.go_on.Given.{Over}
 use Rattle.vw_order.proofs.depth_first.go_on.Goals as goal
@@ -38,8 +38,8 @@ rest_empty stack rest None none empty items = sym (append-nil rest) ∙ sym item
 rest_empty stack rest (Some x) none empty items = absurd (none-some x (sym none))
 
 -- what was done or open before is so afterwards
-kept : (old depth new : DepthSearch) (stack order' stack' : List ℕ) (number : ℕ) → depth.stack.items ≡ stack ++ number ∷ [] → new.order.items ≡ order' → new.stack.items ≡ stack' → IsKept old depth
-    → ((other : ℕ) → is_among (depth.order.items ++ (stack ++ number ∷ [])) other ≡ true → is_among (order' ++ stack') other ≡ true) → IsKept old new
+kept : (old depth new : DepthSearch) (stack order' stack' : List ℕ) (number : ℕ) → depth.stack.items ≡ stack ++ number ∷ [] → new.order.items ≡ order' → new.stack.items ≡ stack' → KeepsNumbers old depth
+    → ((other : ℕ) → is_among (depth.order.items ++ (stack ++ number ∷ [])) other ≡ true → is_among (order' ++ stack') other ≡ true) → KeepsNumbers old new
 kept old depth new stack order' stack' number was order_is stack_is before step = λ other among.
     let there : is_among (depth.order.items ++ (stack ++ number ∷ [])) other ≡ true = subst (λ (l : List ℕ). is_among (depth.order.items ++ l) other ≡ true) was (before other among) in
     subst (λ (l : List ℕ). is_among (l ++ new.stack.items) other ≡ true) (sym order_is) (subst (λ (l : List ℕ). is_among (order' ++ l) other ≡ true) (sym stack_is) (step other there))

@@ -5,7 +5,7 @@ use Rattle.std.proofs.lemmas.List.{map-set}
 use Rattle.vw_plan.specs.declared.wire.Hop.{Hop}
 use Rattle.vw_plan.specs.Lead.{after_last, arrival as arrival_of}
 use Rattle.vw_plan.specs.Routes.{steps_of}
-use Rattle.vw_pipe.specs.Steps.SentHops.{AreSent, taken_by}
+use Rattle.vw_pipe.specs.Steps.SentHops.{AreSent, hop_takes}
 use Rattle.vw_pipe.proofs.StepsOf.{steps_long}
 use Rattle.vw_pipe.proofs.draft.send.Goals as goal
 
@@ -25,7 +25,7 @@ returns-in_ok-hops c =
       soon = subst (All (λ hop. arrival_of board.links hop + 1 ≤ c.args.ready + length (steps_of c.args.route.now.nodes) * (2 ^ 30 + 16))) (sym at) (λ number hop within. omega (arith, c.in_ok-hops.ensures.soon number hop within, ap (λ (all : List ℕ). length (steps_of all)) nodes, steps_long c.in-Some.first.now c.in-Some.further.now));
       arrivals = ap₂ (λ (list : List ℕ) (value : ℕ). set list c.args.number value) c.requires.arrivals (arrival ∙ ap (after_last board.links) (sym c.of.ensures)) ∙ sym (map-set (after_last board.links) old.hops.items c.args.number c.of.result);
       widths = c.in_ok-hops.ensures.ok.2;
-      taken = c.in_ok-hops.ensures.ok.1 ∙ ap (λ (list : List Hop). old.table.taken ++ map (taken_by board) list) (sym at);
+      taken = c.in_ok-hops.ensures.ok.1 ∙ ap (λ (list : List Hop). old.table.taken ++ map (hop_takes board) list) (sym at);
       last = c.max-draft.ensures ∙ ap (max old.after) (arrival ∙ ap (after_last board.links) (sym at));
     }
 

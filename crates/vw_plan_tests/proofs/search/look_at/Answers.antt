@@ -1,7 +1,7 @@
 use Rattle.std.proofs.Common.{◌≡◌, ◌==◌, ◌&&◌, ℕ, zero, suc, Bool, true, false, cond, List, [], ◌∷◌, map, slice_get, nat_lt, Some, None, refl, subst}
 use Rattle.std.proofs.lemmas.Bool.{and_parts, ltb-true}
 use Rattle.std.proofs.lemmas.Option.{none-some, same_Some}
-use Rattle.vw_order.specs.Graphs.{IsWithin}
+use Rattle.vw_order.specs.Graphs.{StaysWithin}
 use Rattle.vw_plan_tests.specs.GraphTables.{read_in_line, graph_of_table}
 use Rattle.vw_plan_tests.proofs.search.look_at.Goals as goal
 
@@ -17,7 +17,7 @@ lines_within count number [] place other at = absurd (none-some (Some other) at)
 lines_within count number (line ∷ lines) zero other at = line_within count number line other (same_Some (read_in_line count number line) (Some other) at)
 lines_within count number (line ∷ lines) (suc place) other at = lines_within count number lines place other at
 
-table_within : (count starts : ℕ) (lines : List (ℕ × ℕ)) → IsWithin (graph_of_table count starts lines)
+table_within : (count starts : ℕ) (lines : List (ℕ × ℕ)) → StaysWithin (graph_of_table count starts lines)
 table_within count starts lines = record {
   below = λ number counts. ltb-true number count counts;
   started = λ number starts_there. (and_parts (nat_lt number count) (nat_lt number starts) starts_there).0;

@@ -2,13 +2,13 @@ use Rattle.std.proofs.Common.{◌≡◌, ◌≤◌, ◌<◌, ◌+◌, ◌∙◌,
 use Rattle.std.specs.Global.{Vec}
 use Rattle.std.proofs.lemmas.List.{get_or_default, length-map, take_all}
 use Rattle.vw_prog.specs.declared.entry.Entry.{Entry}
-use Rattle.vw_prog.specs.Steps.{AreDealt, lists_of}
+use Rattle.vw_prog.specs.Steps.{AreOwnEntries, lists_of}
 use Rattle.vw_prog.proofs.DealtEntries.{dealt_here, dealt_past, pushed}
 use Rattle.vw_prog.proofs.build.deal_entries.Goals as goal
 use Rattle.vw_prog.proofs.build.deal_entries.Goals.{then-node-len+in_ok-push, else-node-len}
 
 pub returns : goal.returns
-returns c nodes start = let all = take_all c.loop-entry.entry-index c.args.entries.now (omega arith) in subst (λ (entries : List Entry). AreDealt nodes entries (lists_of c.loop-entry.lists.items)) all (c.loop-entry.invariant nodes start)
+returns c nodes start = let all = take_all c.loop-entry.entry-index c.args.entries.now (omega arith) in subst (λ (entries : List Entry). AreOwnEntries nodes entries (lists_of c.loop-entry.lists.items)) all (c.loop-entry.invariant nodes start)
 
 pub loop-entry-preserved : goal.loop-entry-preserved
 loop-entry-preserved c nodes start =
@@ -26,5 +26,5 @@ loop-entry-preserved c nodes start =
           dealt_here nodes place entries entry within is (lists_of lists) before (lists_of c.if-node-len.lists.items) (omega (arith, inside, length-map lists (λ (one : Vec Entry). one.items))) new
       | else-node-len w ↦
           let past : length (lists_of lists) ≤ entry.node = omega (arith, length-map lists (λ (one : Vec Entry). one.items), c.len.ensures, w.if-node-len.false, c.loop-entry.lists.ok) in
-          subst (λ (list : List (List Entry)). AreDealt nodes (take (place + 1) entries) list) (sym (ap (λ (v : Vec (Vec Entry)). lists_of v.items) w.lists-is)) (dealt_past nodes place entries entry within is (lists_of lists) before past)
+          subst (λ (list : List (List Entry)). AreOwnEntries nodes (take (place + 1) entries) list) (sym (ap (λ (v : Vec (Vec Entry)). lists_of v.items) w.lists-is)) (dealt_past nodes place entries entry within is (lists_of lists) before past)
     ]

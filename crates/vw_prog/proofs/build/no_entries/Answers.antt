@@ -2,7 +2,7 @@ use Rattle.std.proofs.Common.{◌≡◌, ◌++◌, ◌∙◌, List, [], ◌∷�
 use Rattle.std.specs.Global.{Vec}
 use Rattle.std.proofs.lemmas.List.{map_push}
 use Rattle.vw_prog.specs.declared.entry.Entry.{Entry}
-use Rattle.vw_prog.specs.Steps.{AreDealt, lists_of}
+use Rattle.vw_prog.specs.Steps.{AreOwnEntries, lists_of}
 use Rattle.vw_prog.proofs.DealtEntries.{one_more_empty}
 use Rattle.vw_prog.proofs.build.no_entries.Goals as goal
 
@@ -13,4 +13,4 @@ loop-preserved c =
     one_more_empty c.loop.counter (lists_of lists) (lists_of c.push.new.self.items) pushed c.loop.invariant
 
 pub returns : goal.returns
-returns c = let same : c.loop.counter ≡ c.args.nodes = omega arith in subst (λ (nodes : ℕ). AreDealt nodes [] (lists_of c.loop.lists.items)) same c.loop.invariant
+returns c = let same : c.loop.counter ≡ c.args.nodes = omega arith in subst (λ (nodes : ℕ). AreOwnEntries nodes [] (lists_of c.loop.lists.items)) same c.loop.invariant

@@ -7,7 +7,7 @@ use Rattle.vw_net.specs.declared.ordered.Ordered.{Ordered}
 use Rattle.vw_plan.specs.PlannedBoard.{planned_board}
 use Rattle.vw_prog.specs.declared.entry.Entry.{Entry}
 use Rattle.vw_prog.specs.declared.owners.OwnLatch.{OwnLatch}
-use Rattle.vw_prog.specs.Coding.{IsMadeOf, own_latch, owned_of}
+use Rattle.vw_prog.specs.Coding.{IsCodeOf, own_latch, owned_of}
 use Rattle.vw_prog.specs.Due.{own_latches}
 use Rattle.vw_prog.specs.Steps.{lists_of}
 use Rattle.vw_prog.specs.Timetable.{entries_at, timetable}
@@ -23,9 +23,9 @@ returns-clause-each c node code at =
     let own : get_or (owned_of c.deref.result.now) node [] ≡ map (own_latch checked.ordered.flat) (own_latches planned node) = ap (λ (lists : List (Vec OwnLatch)). get_or (owned_of lists) node []) c.deref.ensures.value ∙ c.in_ok-owned.ensures.each node low in
     let count : length c.deref_mut.result.now ≡ checked.ordered.flat.inputs + length checked.ordered.flat.cells = omega (arith, c.deref_mut.ensures.len, c.in_ok-table.ensures.len, c.in_ok-table.table.ok, c.inputs.ensures, ap (λ (list : List Cell). length list) c.cells.ensures, ap (λ (one : Flat). one.inputs) flat, ap (λ (one : Flat). length one.cells) flat) in
     let made = c.in_ok-codes.ensures.each node code at in
-    let here : IsMadeOf checked.ordered.flat node (map (own_latch checked.ordered.flat) (own_latches planned node)) (entries_at node (timetable planned)) (checked.ordered.flat.inputs + length checked.ordered.flat.cells) code =
-    subst (λ (one : Flat). IsMadeOf one node (map (own_latch checked.ordered.flat) (own_latches planned node)) (entries_at node (timetable planned)) (checked.ordered.flat.inputs + length checked.ordered.flat.cells) code) flat
-    (subst (λ (latches : List OwnLatch). IsMadeOf c.flat-flat.result.now node latches (entries_at node (timetable planned)) (checked.ordered.flat.inputs + length checked.ordered.flat.cells) code) own
-    (subst (λ (list : List Entry). IsMadeOf c.flat-flat.result.now node (get_or (owned_of c.deref.result.now) node []) list (checked.ordered.flat.inputs + length checked.ordered.flat.cells) code) (c.requires.each node low)
-    (subst (λ (many : ℕ). IsMadeOf c.flat-flat.result.now node (get_or (owned_of c.deref.result.now) node []) (get_or (lists_of c.args.lists.now) node []) many code) count made))) in
+    let here : IsCodeOf checked.ordered.flat node (map (own_latch checked.ordered.flat) (own_latches planned node)) (entries_at node (timetable planned)) (checked.ordered.flat.inputs + length checked.ordered.flat.cells) code =
+    subst (λ (one : Flat). IsCodeOf one node (map (own_latch checked.ordered.flat) (own_latches planned node)) (entries_at node (timetable planned)) (checked.ordered.flat.inputs + length checked.ordered.flat.cells) code) flat
+    (subst (λ (latches : List OwnLatch). IsCodeOf c.flat-flat.result.now node latches (entries_at node (timetable planned)) (checked.ordered.flat.inputs + length checked.ordered.flat.cells) code) own
+    (subst (λ (list : List Entry). IsCodeOf c.flat-flat.result.now node (get_or (owned_of c.deref.result.now) node []) list (checked.ordered.flat.inputs + length checked.ordered.flat.cells) code) (c.requires.each node low)
+    (subst (λ (many : ℕ). IsCodeOf c.flat-flat.result.now node (get_or (owned_of c.deref.result.now) node []) (get_or (lists_of c.args.lists.now) node []) many code) count made))) in
     stands planned checked.sound node code here

@@ -5,7 +5,7 @@ use Rattle.vw_net.specs.Cells.{latch_count}
 use Rattle.vw_net.specs.History.{flat_history}
 use Rattle.vw_outside.specs.Writes.{appended, WritesOut}
 use Rattle.vw_prog.specs.Scripts.{planned_of}
-use Rattle.vw_rows.specs.Trace.{head_text, lines_from}
+use Rattle.vw_rows.specs.Trace.{head_text, trace_lines_from}
 use Rattle.vw_trace.specs.RunFaults.{run_fault_of}
 use Rattle.vw_trace.specs.Streamed.{Streams}
 use Rattle.vw_trace.proofs.StreamedTexts.{no_head, headed}
@@ -35,7 +35,7 @@ returns-in_err-write_head-clause-streams g c =
     let before = g.O.Sink.seen c.args.out.now in
     let why = c.in_err-write_head.field-0.0 in
     rw (p.1, p.2)
-    (no_head (head_of flat) c.args.stimulus.now (λ rows. lines_from clock (flat_history flat latches rows)) (λ rows. HaveRun c.args.workers planned clock latches carried carried c.args.stimulus.now.clocks latches (Err (run_fault_of why)) rows)
+    (no_head (head_of flat) c.args.stimulus.now (λ rows. trace_lines_from clock (flat_history flat latches rows)) (λ rows. HaveRun c.args.workers planned clock latches carried carried c.args.stimulus.now.clocks latches (Err (run_fault_of why)) rows)
     (g.S.Shelf.seen c.args.shelf.now) before c.requires.stands (after_no_rows planned clock latches c.args.workers carried, tt) why (g.O.Sink.seen c.write_head.new.out)
     (subst (λ (one : Flat). WritesOut (head_of one) before (g.O.Sink.seen c.write_head.new.out) (Err why)) c.flat.ensures c.in_err-write_head.ensures))
 
@@ -57,7 +57,7 @@ returns-clause-streams g c =
     let last = c.go_on.new.state in
     let wrote : mid ≡ appended before (head_of flat) =
     c.in_ok-write_head.ensures ∙ ap (λ (one : Flat). appended before (head_of one)) c.flat.ensures in
-    let text : ℕ → List (List Bool) → List ℕ = λ clock rows. lines_from clock (flat_history flat latches rows) in
+    let text : ℕ → List (List Bool) → List ℕ = λ clock rows. trace_lines_from clock (flat_history flat latches rows) in
     headed (head_of flat) stimulus (text c.args.clock) (HaveRun c.args.workers planned c.args.clock latches carried carried_after stimulus.clocks last answer) shelf before mid wrote shelf_after after answer
     (subst (λ (clock : ℕ). Streams stimulus.name stimulus.width (text clock) (HaveRun c.args.workers planned clock latches carried carried_after stimulus.clocks last answer) shelf mid shelf_after after answer) c.make-recorder.ensures.clocks
     c.go_on.ensures.streams)
@@ -68,5 +68,5 @@ returns-clause-latches g c =
     let recorder = c.make-recorder.result in
     let stimulus = c.args.stimulus.now in
     let latches = c.args.latches.now in
-    latches_last stimulus.name stimulus.width (λ rows. lines_from recorder.clocks (flat_history planned.ordered.flat latches rows)) c.args.workers planned recorder.clocks latches (g.F.Fabric.carried c.args.fabric.now) (g.F.Fabric.carried c.go_on.new.fabric)
+    latches_last stimulus.name stimulus.width (λ rows. trace_lines_from recorder.clocks (flat_history planned.ordered.flat latches rows)) c.args.workers planned recorder.clocks latches (g.F.Fabric.carried c.args.fabric.now) (g.F.Fabric.carried c.go_on.new.fabric)
     stimulus.clocks c.go_on.new.state (g.S.Shelf.seen c.args.shelf.now) (g.O.Sink.seen c.write_head.new.out) (g.S.Shelf.seen c.go_on.new.shelf) (g.O.Sink.seen c.go_on.new.out) c.requires.latches c.go_on.result c.go_on.ensures.streams

@@ -1,5 +1,6 @@
 use Rattle.std.proofs.Common.{◌≡◌, ◌<◌, ◌≤◌, ◌+◌, ℕ, Bool, List, ◌∷◌, ◌++◌, length, drop, get_or, ap, ap₂, sym, ◌∙◌, append_assoc, append-nil, arith}
 use Rattle.std.proofs.lemmas.List.{drop_more, drop_all}
+use Rattle.std.proofs.lemmas.Option.{get_or_from_slice_get}
 use Rattle.vw_rows.specs.Trace.{clock_text, rows_text}
 use Rattle.vw_rows.proofs.trace.trace_rows.Goals as goal
 
@@ -20,19 +21,19 @@ clock_further first i clock outputs states row state text new within inside is_r
 pub loop-i-preserved : goal.loop-i-preserved
 loop-i-preserved c =
     let i = c.loop-i.i in
-    let rows = c.as_slice-row-items.ensures in
     let outputs = c.args.outputs.now in
-    let states = c.as_slice-states.result.now in
-    let within : i < length outputs = omega (arith, c.loop-i-test.true, ap (λ (rs : List (List Bool)). length rs) rows) in
-    let inside : i < length states = omega (arith, within, c.requires, ap (λ (rs : List (List Bool)). length rs) c.as_slice-states.ensures) in
-    clock_further c.args.first i (c.from.result + i) outputs states c.row-item.result c.index-states-i.result c.loop-i.text.items c.push_clock.new.text.items within inside
-    (c.row-item.is ∙ ap (λ (rs : List (List Bool)). get_or rs i c.row-item.result) rows) c.index-states-i.is (ap (λ (n : ℕ). n + i) c.from.ensures) c.in_ok-push_clock.ensures c.loop-i.invariant
+    let states = c.args.latches.now in
+    let row = c.row.result.now in
+    let state = c.row-in-loop-i.result.now in
+    let within : i < length outputs = omega (arith, c.loop-i-test.true, c.len-i-end.ensures) in
+    let inside : i < length states = omega (arith, within, c.requires) in
+    clock_further c.args.first i (c.from.result + i) outputs states row state c.loop-i.text.items c.push_clock.new.text.items within inside
+    (sym (get_or_from_slice_get outputs i row row c.row.ensures)) (sym (get_or_from_slice_get states i state state c.row-in-loop-i.ensures)) (ap (λ (n : ℕ). n + i) c.from.ensures) c.in_ok-push_clock.ensures c.loop-i.invariant
 
 pub returns : goal.returns
 returns c =
     let i = c.loop-i.i in
     let text = c.loop-i.text.items in
     let outputs = c.args.outputs.now in
-    let past : length outputs ≤ i = omega (arith, c.loop-i-test.false, ap (λ (rs : List (List Bool)). length rs) c.as_slice-row-items.ensures) in
-    sym (append-nil text) ∙ ap (λ (rs : List (List Bool)). text ++ rows_text (c.args.first + i) rs (drop i c.as_slice-states.result.now)) (sym (drop_all i outputs past)) ∙ c.loop-i.invariant
-    ∙ ap (λ (ss : List (List Bool)). rows_text c.args.first outputs ss) c.as_slice-states.ensures
+    let past : length outputs ≤ i = omega (arith, c.loop-i-test.false, c.len-i-end.ensures) in
+    sym (append-nil text) ∙ ap (λ (rs : List (List Bool)). text ++ rows_text (c.args.first + i) rs (drop i c.args.latches.now)) (sym (drop_all i outputs past)) ∙ c.loop-i.invariant

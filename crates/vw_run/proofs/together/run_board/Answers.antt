@@ -6,7 +6,7 @@ use Rattle.vw_net.specs.History.{flat_history}
 use Rattle.vw_net.proofs.Counts.{length-start_values}
 use Rattle.vw_outside.specs.Writes.{appended, WritesOut}
 use Rattle.vw_prog.specs.Scripts.{planned_of}
-use Rattle.vw_rows.specs.Trace.{head_text, lines_from}
+use Rattle.vw_rows.specs.Trace.{head_text, trace_lines_from}
 use Rattle.vw_trace.specs.FlatTrace.{flat_trace}
 use Rattle.vw_trace.specs.declared.fault.RunFault.TheVariants.{NoMemory}
 use Rattle.vw_trace.specs.RunFaults.{run_fault_of}
@@ -62,7 +62,7 @@ returns-in_err-write_head-clause-streams g c =
     let before = g.O.Sink.seen c.args.out.now in
     let why = c.in_err-write_head.field-0.0 in
     rw (p.1, p.2)
-    (no_head (head_of c.args.probes flat) c.args.stimulus.now (λ rows. lines_from 0 (flat_history flat start rows)) (HaveRunBoard c.args.workers planned start carried carried c.args.stimulus.now.clocks (Err (run_fault_of why)))
+    (no_head (head_of c.args.probes flat) c.args.stimulus.now (λ rows. trace_lines_from 0 (flat_history flat start rows)) (HaveRunBoard c.args.workers planned start carried carried c.args.stimulus.now.clocks (Err (run_fault_of why)))
     (g.S.Shelf.seen c.args.shelf.now) before c.requires.stands (after_no_rows planned 0 start c.args.workers carried, tt) why (g.O.Sink.seen c.write_head.new.out)
     (subst (λ (one : Flat). WritesOut (head_of c.args.probes one) before (g.O.Sink.seen c.write_head.new.out) (Err why)) c.flat-2.ensures c.in_err-write_head.ensures))
 
@@ -85,7 +85,7 @@ returns-clause-streams g c =
     let start = start_values c.args.unknown flat.cells in
     let wrote : mid ≡ appended before (head_of c.args.probes flat) =
     c.in_ok-write_head.ensures ∙ ap (λ (one : Flat). appended before (head_of c.args.probes one)) c.flat-2.ensures in
-    let text : ℕ → List Bool → List (List Bool) → List ℕ = λ clock latches rows. lines_from clock (flat_history flat latches rows) in
+    let text : ℕ → List Bool → List (List Bool) → List ℕ = λ clock latches rows. trace_lines_from clock (flat_history flat latches rows) in
     let had : ℕ → List Bool → List (List Bool) → Type 0 = λ clock latches rows. HaveCarried c.args.workers planned clock latches carried carried_after rows × HasClocks stimulus.clocks answer rows in
     let ran : Streams stimulus.name stimulus.width (text first state) (had first state) shelf mid shelf_after after answer =
     other_done stimulus.name stimulus.width (text first state) (HaveRun c.args.workers planned first state carried carried_after stimulus.clocks c.go_on.new.state answer)

@@ -2,7 +2,7 @@ use Rattle.std.proofs.Common.{Ok, Err}
 use Rattle.std.proofs.lemmas.Result.{err_from_is_err_and}
 use Rattle.vw_net.specs.History.{flat_history}
 use Rattle.vw_trace.specs.RunFaults.{run_fault_of}
-use Rattle.vw_trace.specs.Recorded.{ended}
+use Rattle.vw_trace.specs.Recorded.{no_more_clocks}
 use Rattle.vw_trace.specs.Streamed.{EndsAt}
 use Rattle.vw_trace.proofs.StreamedTexts.{no_clocks, no_end, all_recorded, other_done}
 use Rattle.vw_trace.proofs.record.record_run.Goals as goal
@@ -47,7 +47,7 @@ returns-in_err-put_text-clause-streams g c =
     shelf out shelf_after (g.O.Sink.seen c.put_text.new.out) (Err (run_fault_of why))
     (no_end stimulus flat (record { clock = g.R.Recorder.clocks recorder; state = c.args.state.now; left = g.R.Recorder.left recorder }) (λ rows. Unit {0}) shelf out
     last left_after shelf_after (g.O.Sink.seen c.record_clocks.new.out) (g.O.Sink.seen c.put_text.new.out) c.in_ok-record_clocks.ensures.records
-    why (c.in_err-put_text.ensures (left_after (ended last)) c.end-rest.ensures)))
+    why (c.in_err-put_text.ensures (left_after (no_more_clocks last)) c.end-rest.ensures)))
 
 pub returns-clause-streams : goal.returns-clause-streams
 returns-clause-streams g c =
@@ -64,4 +64,4 @@ returns-clause-streams g c =
     shelf out shelf_after (g.O.Sink.seen c.put_text.new.out) (Ok tt)
     (all_recorded stimulus flat (record { clock = g.R.Recorder.clocks recorder; state = c.args.state.now; left = g.R.Recorder.left recorder }) (λ rows. Unit {0}) shelf out
     last left_after shelf_after (g.O.Sink.seen c.record_clocks.new.out) (g.O.Sink.seen c.put_text.new.out) c.in_ok-record_clocks.ensures.records
-    (c.in_ok-put_text.ensures (left_after (ended last)) c.end-rest.ensures))
+    (c.in_ok-put_text.ensures (left_after (no_more_clocks last)) c.end-rest.ensures))

@@ -1,6 +1,4 @@
-use Rattle.std.proofs.Common.{◌+◌, List, Bool, length, ap, sym, subst, ◌∙◌}
-use Rattle.std.proofs.lemmas.List.{with_items_is}
-use Rattle.vw_answer.specs.Latches.{HaveLatches}
+use Rattle.std.proofs.Common.{length, sym, ◌∙◌}
 use Rattle.vw_answer.proofs.DoneNodes.{bits_wide, done_node, last_more, latches_long, rows_count, rows_more, within_row, within_rows}
 use Rattle.vw_answer.proofs.room.Room.put_chip.Goals as goal
 
@@ -9,8 +7,7 @@ pub put_recorded-requires-clause-within : goal.put_recorded-requires-clause-with
 put_recorded-requires-clause-within c =
     let job = c.args.job.now in
     let chip = c.args.chip.now in
-    within_rows job chip.share.node c.requires.number chip (done_node job chip c.requires.finished) chip.share.node c.deref_mut.result.now
-    (subst (HaveLatches job chip.share.node) (sym c.deref_mut.ensures.value) c.requires.told.latches)
+    within_rows job chip.share.node c.requires.number chip (done_node job chip c.requires.finished) chip.share.node c.args.self.now.latches c.requires.told.latches
 
 -- src/room.rt
 pub put_recorded-requires-clause-bits : goal.put_recorded-requires-clause-bits
@@ -24,7 +21,7 @@ pub put_recorded-requires-clause-clocks : goal.put_recorded-requires-clause-cloc
 put_recorded-requires-clause-clocks c =
     let job = c.args.job.now in
     let chip = c.args.chip.now in
-    rows_count job chip.share.node chip (done_node job chip c.requires.finished) ∙ sym c.requires.told.latches.count ∙ ap (λ (rows : List (List Bool)). length rows) (sym c.deref_mut.ensures.value)
+    rows_count job chip.share.node chip (done_node job chip c.requires.finished) ∙ sym c.requires.told.latches.count
 
 -- src/room.rt
 pub put_present-requires-clause-within : goal.put_present-requires-clause-within
@@ -46,9 +43,7 @@ returns c =
     let job = c.args.job.now in
     let chip = c.args.chip.now in
     let done = done_node job chip c.requires.finished in
-    let have : HaveLatches job chip.share.node c.deref_mut.result.now = subst (HaveLatches job chip.share.node) (sym c.deref_mut.ensures.value) c.requires.told.latches in
-    let items = with_items_is c.args.self.now.latches c.put_recorded.new.latches (c.put_recorded.ensures.count ∙ ap (λ (rows : List (List Bool)). length rows) c.deref_mut.ensures.value ∙ sym c.args.self.now.latches.ok.0) in
     record {
-      latches = subst (HaveLatches job (chip.share.node + 1)) (sym items) (rows_more job chip.share.node c.requires.number chip done c.deref_mut.result.now c.put_recorded.new.latches have c.put_recorded.ensures.count c.put_recorded.ensures.each);
+      latches = rows_more job chip.share.node c.requires.number chip done c.args.self.now.latches c.put_recorded.new.latches c.requires.told.latches c.put_recorded.ensures.count c.put_recorded.ensures.each;
       last = last_more job chip.share.node c.requires.number chip done c.args.self.now.last c.put_present.new.row c.requires.told.last c.put_present.ensures;
     }

@@ -9,7 +9,7 @@ use Rattle.vw_prog.specs.declared.word.Word.{Word}
 use Rattle.vw_prog.specs.Scripts.{script}
 use Rattle.vw_node.specs.declared.node.Node.{Node}
 use Rattle.vw_answer.specs.Answers.{HasTold}
-use Rattle.vw_crew.specs.Groups.{SeenGroup, node_at}
+use Rattle.vw_crew.specs.Groups.{SeenGroup, group_node}
 use Rattle.vw_crew.specs.Laying.{AreThrough, CanLift, HasSameNodes, carried_on}
 use Rattle.vw_crew.specs.Seen.{SeenCrew}
 use Rattle.vw_crew.proofs.CrewEnds.{all_carried, node_finished, node_there, number_is}
@@ -48,7 +48,7 @@ node-requires g c =
     let chip = c.loop-chip.chip in
     let inside : chip < suc job.checked.board.chips = omega (arith, c.loop-chip-test.true, chips) in
     let now : c.deref.result.now ≡ new = c.deref.ensures.value ∙ items in
-    subst (λ (groups : List SeenGroup). (there : Node) × (node_at groups chip ≡ Some there)) (sym now) (node_there job keeps old new crew done same chip inside)
+    subst (λ (groups : List SeenGroup). (there : Node) × (group_node groups chip ≡ Some there)) (sym now) (node_there job keeps old new crew done same chip inside)
 
 -- src/crew.rt
 pub put_chip-requires-clause-told : goal.put_chip-requires-clause-told
@@ -66,7 +66,7 @@ put_chip-requires-clause-told g c =
     let chip = c.loop-chip.chip in
     let inside : chip < suc job.checked.board.chips = omega (arith, c.loop-chip-test.true, chips) in
     let now : c.deref.result.now ≡ new = c.deref.ensures.value ∙ items in
-    let there : node_at new chip ≡ Some c.node.result.now = ap (λ (groups : List SeenGroup). node_at groups chip) (sym now) ∙ c.node.ensures in
+    let there : group_node new chip ≡ Some c.node.result.now = ap (λ (groups : List SeenGroup). group_node groups chip) (sym now) ∙ c.node.ensures in
     let number = number_is job keeps old new crew done same chip inside c.node.result.now there in
     subst (λ (any : ℕ). HasTold job any c.loop-chip.room) (sym number) c.loop-chip.invariant
 
@@ -86,7 +86,7 @@ put_chip-requires-clause-number g c =
     let chip = c.loop-chip.chip in
     let inside : chip < suc job.checked.board.chips = omega (arith, c.loop-chip-test.true, chips) in
     let now : c.deref.result.now ≡ new = c.deref.ensures.value ∙ items in
-    let there : node_at new chip ≡ Some c.node.result.now = ap (λ (groups : List SeenGroup). node_at groups chip) (sym now) ∙ c.node.ensures in
+    let there : group_node new chip ≡ Some c.node.result.now = ap (λ (groups : List SeenGroup). group_node groups chip) (sym now) ∙ c.node.ensures in
     let number = number_is job keeps old new crew done same chip inside c.node.result.now there in
     omega (arith, number, c.loop-chip.auto.chip)
 
@@ -106,7 +106,7 @@ put_chip-requires-clause-finished g c =
     let chip = c.loop-chip.chip in
     let inside : chip < suc job.checked.board.chips = omega (arith, c.loop-chip-test.true, chips) in
     let now : c.deref.result.now ≡ new = c.deref.ensures.value ∙ items in
-    let there : node_at new chip ≡ Some c.node.result.now = ap (λ (groups : List SeenGroup). node_at groups chip) (sym now) ∙ c.node.ensures in
+    let there : group_node new chip ≡ Some c.node.result.now = ap (λ (groups : List SeenGroup). group_node groups chip) (sym now) ∙ c.node.ensures in
     node_finished job keeps old new crew done same chip inside c.node.result.now there
 
 -- src/crew.rt
@@ -125,7 +125,7 @@ loop-chip-preserved g c =
     let chip = c.loop-chip.chip in
     let inside : chip < suc job.checked.board.chips = omega (arith, c.loop-chip-test.true, chips) in
     let now : c.deref.result.now ≡ new = c.deref.ensures.value ∙ items in
-    let there : node_at new chip ≡ Some c.node.result.now = ap (λ (groups : List SeenGroup). node_at groups chip) (sym now) ∙ c.node.ensures in
+    let there : group_node new chip ≡ Some c.node.result.now = ap (λ (groups : List SeenGroup). group_node groups chip) (sym now) ∙ c.node.ensures in
     let number = number_is job keeps old new crew done same chip inside c.node.result.now there in
     subst (λ (any : ℕ). HasTold job (any + 1) c.put_chip.new.self) number c.put_chip.ensures
 
@@ -142,7 +142,7 @@ into_host-requires g c =
     let items = with_items_is c.self.inside.groups new long in
     let same : HasSameNodes old new = subst (λ (groups : List SeenGroup). HasSameNodes groups new) c.deref_mut.ensures.value c.lift_all.ensures.nodes in
     let first : 0 < suc job.checked.board.chips = omega arith in
-    subst (λ (groups : List SeenGroup). (there : Node) × (node_at groups 0 ≡ Some there)) (sym items) (node_there job keeps old new crew done same 0 first)
+    subst (λ (groups : List SeenGroup). (there : Node) × (group_node groups 0 ≡ Some there)) (sym items) (node_there job keeps old new crew done same 0 first)
 
 -- src/crew.rt
 pub answer-requires-clause-told : goal.answer-requires-clause-told
@@ -164,7 +164,7 @@ answer-requires-clause-number g c =
     let items = with_items_is c.self.inside.groups new long in
     let same : HasSameNodes old new = subst (λ (groups : List SeenGroup). HasSameNodes groups new) c.deref_mut.ensures.value c.lift_all.ensures.nodes in
     let first : 0 < suc job.checked.board.chips = omega arith in
-    let there : node_at new 0 ≡ Some c.into_host.result = ap (λ (groups : List SeenGroup). node_at groups 0) (sym items) ∙ c.into_host.ensures in
+    let there : group_node new 0 ≡ Some c.into_host.result = ap (λ (groups : List SeenGroup). group_node groups 0) (sym items) ∙ c.into_host.ensures in
     number_is job keeps old new crew done same 0 first c.into_host.result there
 
 -- src/crew.rt
@@ -180,7 +180,7 @@ answer-requires-clause-finished g c =
     let items = with_items_is c.self.inside.groups new long in
     let same : HasSameNodes old new = subst (λ (groups : List SeenGroup). HasSameNodes groups new) c.deref_mut.ensures.value c.lift_all.ensures.nodes in
     let first : 0 < suc job.checked.board.chips = omega arith in
-    let there : node_at new 0 ≡ Some c.into_host.result = ap (λ (groups : List SeenGroup). node_at groups 0) (sym items) ∙ c.into_host.ensures in
+    let there : group_node new 0 ≡ Some c.into_host.result = ap (λ (groups : List SeenGroup). group_node groups 0) (sym items) ∙ c.into_host.ensures in
     node_finished job keeps old new crew done same 0 first c.into_host.result there
 
 -- src/crew.rt

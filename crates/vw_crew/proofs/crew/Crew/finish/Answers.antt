@@ -2,7 +2,7 @@ use Rattle.std.proofs.Common.{◌≡◌, List, true, length, ap, sym, subst, ◌
 use Rattle.std.specs.Option.{is_some}
 use Rattle.std.proofs.lemmas.List.{with_items_is}
 use Rattle.vw_answer.specs.Answers.{HasTold}
-use Rattle.vw_crew.specs.Groups.{AllAtWork, AllStay, SeenGroup, numbers_of}
+use Rattle.vw_crew.specs.Groups.{AllAtWork, AllStay, SeenGroup, group_numbers, node_numbers}
 use Rattle.vw_crew.specs.Laying.{AreThrough, IsCrew}
 use Rattle.vw_crew.specs.Seen.{SeenCrew}
 use Rattle.vw_crew.proofs.DealtNodes.{numbers_stay}
@@ -35,4 +35,14 @@ returns-clause-groups g c =
     let long : length new ≡ c.self.inside.groups.len = c.finish.auto.groups ∙ ap (λ (groups : List SeenGroup). length groups) c.deref_mut.ensures.value ∙ sym c.self.inside.groups.ok.0 in
     let items = with_items_is c.self.inside.groups new long in
     let stay : AllStay old new = subst (λ (groups : List SeenGroup). AllStay groups new) c.deref_mut.ensures.value c.finish.ensures.stay in
-    ap numbers_of items ∙ numbers_stay old new stay ∙ ap (λ (seen : SeenCrew). seen.groups) c.self.view_is
+    ap node_numbers items ∙ numbers_stay old new stay ∙ ap (λ (seen : SeenCrew). seen.groups) c.self.view_is
+
+-- src/crew.rt
+pub returns-clause-numbers : goal.returns-clause-numbers
+returns-clause-numbers g c =
+    let new = c.finish.new.groups in
+    let old = c.self.inside.groups.items in
+    let long : length new ≡ c.self.inside.groups.len = c.finish.auto.groups ∙ ap (λ (groups : List SeenGroup). length groups) c.deref_mut.ensures.value ∙ sym c.self.inside.groups.ok.0 in
+    let items = with_items_is c.self.inside.groups new long in
+    let stay : AllStay old new = subst (λ (groups : List SeenGroup). AllStay groups new) c.deref_mut.ensures.value c.finish.ensures.stay in
+    ap group_numbers items ∙ stay.numbers ∙ ap (λ (seen : SeenCrew). seen.numbers) c.self.view_is

@@ -1,14 +1,16 @@
-use Rattle.std.proofs.Common.{◌≡◌, ◌+◌, ℕ, List, Bool, true, false, length, min, ap, sym, subst, ◌∙◌, true≢false, arith}
+use Rattle.std.proofs.Common.{◌≡◌, ◌+◌, ℕ, List, Bool, true, false, length, map, min, ap, sym, subst, ◌∙◌, true≢false, arith}
+use Rattle.std.specs.List.{range_with_len}
 use Rattle.std.specs.Option.{is_some}
-use Rattle.std.proofs.lemmas.List.{with_items_is}
+use Rattle.std.proofs.lemmas.List.{length-map, with_items_is}
 use Rattle.vw_answer.specs.Answers.{HasTold}
 use Rattle.vw_plan.specs.declared.board.Board.{Board}
 use Rattle.vw_plan.specs.declared.checked.Checked.{Checked}
-use Rattle.vw_crew.specs.Groups.{SeenGroup, numbers_of}
+use Rattle.vw_crew.specs.Groups.{SeenGroup, group_numbers, node_number, node_numbers}
 use Rattle.vw_crew.specs.Laying.{AreThrough, IsBare, IsCrew}
 use Rattle.vw_crew.specs.Seen.{AreDealt}
 use Rattle.vw_crew.proofs.DealtNodes.{are_dealt}
 use Rattle.vw_crew.proofs.Filling.{bare_groups}
+use Rattle.vw_crew.proofs.Numbered.{are_numbered}
 use Rattle.vw_crew.proofs.crew.Crew.make.Goals as goal
 
 -- src/crew.rt
@@ -41,4 +43,16 @@ returns-clause-groups g c =
     let nodes : c.chips.result + 1 ≡ job.checked.board.chips + 1 = ap (λ (n : ℕ). n + 1) (c.chips.ensures ∙ ap (λ (board : Board). board.chips) (c.board.ensures ∙ ap (λ (checked : Checked). checked.board) c.checked.ensures)) in
     let many : length new ≡ min c.args.workers (job.checked.board.chips + 1) = long ∙ c.in_ok-groups.groups.ok.0 ∙ c.in_ok-groups.ensures.count ∙ c.min-count.ensures ∙ ap (min c.args.workers) nodes in
     let dealt = are_dealt job told new c.in_ok-lay_all.ensures.ready c.args.workers (job.checked.board.chips + 1) (omega arith) many in
-    subst (λ (groups : List SeenGroup). AreDealt c.args.workers (job.checked.board.chips + 1) (numbers_of groups)) (sym items) dealt
+    subst (λ (groups : List SeenGroup). AreDealt c.args.workers (job.checked.board.chips + 1) (node_numbers groups)) (sym items) dealt
+
+-- src/crew.rt
+pub returns-clause-numbers : goal.returns-clause-numbers
+returns-clause-numbers g c =
+    let first = c.in_ok-groups.groups.items in
+    let new = c.lay_all.new.groups in
+    let long : length new ≡ c.in_ok-groups.groups.len = c.lay_all.auto.groups ∙ ap (λ (groups : List SeenGroup). length groups) c.deref_mut.ensures.value ∙ sym c.in_ok-groups.groups.ok.0 in
+    let items = with_items_is c.in_ok-groups.groups new long in
+    let same : group_numbers new ≡ group_numbers first = c.lay_all.ensures.numbers ∙ ap group_numbers c.deref_mut.ensures.value in
+    let many : length first ≡ length (node_numbers new) = sym c.in_ok-groups.groups.ok.0 ∙ sym long ∙ sym (length-map new (λ (group : SeenGroup). map node_number group.nodes)) in
+    subst (λ (groups : List SeenGroup). group_numbers groups ≡ range_with_len 0 (length (node_numbers groups))) (sym items)
+    (same ∙ are_numbered c.args.job.now c.min-count.result first c.in_ok-groups.ensures.each ∙ ap (range_with_len 0) many)

@@ -5,7 +5,7 @@ use Rattle.vw_design.specs.declared.item.Item.{Item}
 use Rattle.vw_design.specs.Paths.{model_named, model_outputs}
 use Rattle.vw_design.specs.ModelNumbers.{IsNumberOfModel}
 use Rattle.vw_drivers.specs.Firsts.{First}
-use Rattle.vw_drivers.specs.Steps.GatheredClaims.{model_outputs_at, binds_made, item_made, with_all, IsModelNumber}
+use Rattle.vw_drivers.specs.Steps.GatheredClaims.{model_outputs_at, binds_made, item_made, with_first_claims, IsModelNumber}
 use Rattle.vw_drivers.proofs.Targets.{target_within, target_outputs, made_same}
 use Rattle.vw_drivers.proofs.model_claims.ModelClaims.add_item.Goals as goal
 
@@ -26,4 +26,4 @@ returns-in_ok-place-in-Sub c =
     ∙ made_same (model_outputs_at c.args.outputs.now c.args.target) (model_outputs (model_named design.models model))
     (target_outputs design c.args.outputs.now c.requires.outputs model c.args.target target) (suc c.args.before) 0 c.in-Sub.binds
     ∙ ap (item_made design c.args.number c.args.before) (sym c.in-Sub.is) in
-    subst (λ (more : List First). OnOk c.add_placed.result (c.add_placed.new.self ≡ with_all c.args.number more c.args.self.now)) made c.add_placed.ensures
+    subst (λ (more : List First). OnOk c.add_placed.result (c.add_placed.new.self ≡ with_first_claims c.args.number more c.args.self.now)) made c.add_placed.ensures

@@ -127,10 +127,10 @@ pub end_clock-requires-clause-within : goal.end_clock-requires-clause-within
 end_clock-requires-clause-within g c = end_within (g.E.Ends.seen c.args.ends.now) c.args.self.now c.requires.fits c.requires.agrees c.if-self.false
 
 pub returns-in-Step-clause-fits : goal.returns-in-Step-clause-fits
-returns-in-Step-clause-fits g c = end_fits (g.E.Ends.seen c.args.ends.now) c.args.self.now c.requires.fits c.requires.agrees c.if-self.false c.end_clock.new.self c.end_clock.ensures.spare.0 c.end_clock.ensures.rest c.end_clock.ensures.slots c.end_clock.ensures.next c.end_clock.ensures.rows c.end_clock.ensures.spare.1 c.end_clock.ensures.capacity c.index.result.now (sym c.index.ensures ∙ c.in-Step.is)
+returns-in-Step-clause-fits g c = end_fits (g.E.Ends.seen c.args.ends.now) c.args.self.now c.requires.fits c.requires.agrees c.if-self.false c.end_clock.new.self c.end_clock.ensures.rest c.end_clock.ensures.slots c.end_clock.ensures.next c.end_clock.ensures.rows c.index.result.now (sym c.index.ensures ∙ c.in-Step.is)
 
 pub returns-in-Step-clause-agrees : goal.returns-in-Step-clause-agrees
-returns-in-Step-clause-agrees g c = end_agrees (g.E.Ends.seen c.args.ends.now) c.args.self.now c.requires.fits c.requires.agrees c.if-self.false c.end_clock.new.self c.end_clock.ensures.spare.0 c.end_clock.ensures.rest c.end_clock.ensures.slots c.end_clock.ensures.next c.end_clock.ensures.rows c.end_clock.ensures.spare.1 c.end_clock.ensures.capacity c.index.result.now (sym c.index.ensures ∙ c.in-Step.is)
+returns-in-Step-clause-agrees g c = end_agrees (g.E.Ends.seen c.args.ends.now) c.args.self.now c.requires.fits c.requires.agrees c.if-self.false c.end_clock.new.self c.end_clock.ensures.rest c.end_clock.ensures.slots c.end_clock.ensures.next c.end_clock.ensures.rows c.index.result.now (sym c.index.ensures ∙ c.in-Step.is)
 
 pub returns-in-Step-clause-makes : goal.returns-in-Step-clause-makes
-returns-in-Step-clause-makes g c = end_makes (g.E.Ends.seen c.args.ends.now) c.args.self.now c.requires.fits c.requires.agrees c.if-self.false c.end_clock.new.self c.end_clock.ensures.spare.0 c.end_clock.ensures.rest c.end_clock.ensures.slots c.end_clock.ensures.next c.end_clock.ensures.rows c.end_clock.ensures.spare.1 c.end_clock.ensures.capacity c.index.result.now (sym c.index.ensures ∙ c.in-Step.is) c.args.whole
+returns-in-Step-clause-makes g c = end_makes (g.E.Ends.seen c.args.ends.now) c.args.self.now c.requires.fits c.requires.agrees c.if-self.false c.end_clock.new.self c.end_clock.ensures.rest c.end_clock.ensures.slots c.end_clock.ensures.next c.end_clock.ensures.rows c.index.result.now (sym c.index.ensures ∙ c.in-Step.is) c.args.whole

@@ -1,7 +1,7 @@
 use Rattle.std.proofs.Common.{◌≡◌, ◌≢◌, ◌<◌, ◌≤◌, ◌∙◌, ℕ, List, [], ◌∷◌, ◌++◌, length, get_or, ap, refl, sym, subst, arith}
 use Rattle.std.proofs.lemmas.List.{get_or_default}
 use Rattle.vw_part.specs.declared.load.Load.{Load}
-use Rattle.vw_part.specs.Steps.Deals.{nets_at}
+use Rattle.vw_part.specs.Steps.Deals.{cell_nets_at}
 use Rattle.vw_part.specs.Steps.Gains.{AreGains, lone_among}
 use Rattle.vw_part.specs.Steps.CellNets.{times_among}
 use Rattle.vw_part.proofs.Dealing.{HasCellMore, dealt_more, loaded}
@@ -20,7 +20,7 @@ add-requires-clause-fits c = λ net.
     let chips = c.args.self.now.chip_of.items in
     let load = loaded c.args.self.now c.args.chip c.index_mut-load.result.now c.requires.chip.1 c.index_mut-load.ensures.value in
     let next : c.len-cell.result ≡ length chips = omega (arith, c.len-cell.ensures, c.args.self.now.chip_of.ok) in
-    let own : c.at-own.result.now ≡ nets_at cell_nets (length chips) = c.at-own.ensures ∙ ap (λ (cell : ℕ). nets_at cell_nets cell) next in
+    let own : c.at-own.result.now ≡ cell_nets_at cell_nets (length chips) = c.at-own.ensures ∙ ap (λ (cell : ℕ). cell_nets_at cell_nets cell) next in
     let once : times_among c.at-own.result.now net ≤ 1 = subst (λ (nets : List ℕ). times_among nets net ≤ 1) (sym own) (cell_nets.once (length chips) [] c.requires.next net) in
     omega (arith, load.counts net, held-le chips cell_nets.of_cells.items c.args.chip net cell_nets.once, once, c.requires.next, cell_nets.few_cells)
 
@@ -50,11 +50,11 @@ invariant_of-self-2 c =
     let new = c.add.new.self in
     let after = c.add.new.freed.counts.items in
     let next : c.len-cell.result ≡ length chips = omega (arith, c.len-cell.ensures, deal.chip_of.ok) in
-    let own : c.at-own.result.now ≡ nets_at cell_nets (length chips) = c.at-own.ensures ∙ ap (λ (cell : ℕ). nets_at cell_nets cell) next in
+    let own : c.at-own.result.now ≡ cell_nets_at cell_nets (length chips) = c.at-own.ensures ∙ ap (λ (cell : ℕ). cell_nets_at cell_nets cell) next in
     let within : chip < length loads = omega (arith, deal.is.nodes, c.requires.chip.1) in
     let found : old ≡ get_or loads chip new = c.index_mut-load.ensures.value ∙ get_or_default loads chip old new within in
     let raw : HasCellMore c.at-own.result.now old new = record { cells = c.add.ensures.cells; long = c.add.ensures.long; counts = c.add.ensures.held } in
-    let more : HasCellMore (nets_at cell_nets (length chips)) (get_or loads chip new) new = subst (λ (nets : List ℕ). HasCellMore nets (get_or loads chip new) new) own (subst (λ (load : Load). HasCellMore c.at-own.result.now load new) found raw) in
+    let more : HasCellMore (cell_nets_at cell_nets (length chips)) (get_or loads chip new) new = subst (λ (nets : List ℕ). HasCellMore nets (get_or loads chip new) new) own (subst (λ (load : Load). HasCellMore c.at-own.result.now load new) found raw) in
     record {
       is = dealt_more deal.board.now cell_nets chips _ loads _ chip new deal.is c.requires.next c.requires.chip c.requires.room c.in_ok-push.ensures.items refl more;
       gains = keeps_come deal.board.now cell_nets chips c.push.new.self.items loads frees c.set.new.self.counts.items after c.len-cell.result chip c.lone.result new deal.gains within

@@ -4,7 +4,7 @@ use Rattle.std.proofs.lemmas.List.Elements.{All-get_or}
 use Rattle.vw_plan.specs.Chips.{IsChip}
 use Rattle.vw_part.specs.declared.deal.Deal.{Deal}
 use Rattle.vw_part.specs.declared.load.Load.{Load}
-use Rattle.vw_part.specs.Steps.Deals.{cells_held, nets_at}
+use Rattle.vw_part.specs.Steps.Deals.{cells_held, cell_nets_at}
 use Rattle.vw_part.specs.Steps.Gains.{AreGains, lone_among}
 use Rattle.vw_part.specs.Steps.CellNets.{times_among}
 use Rattle.vw_part.proofs.Dealing.{HasCellMore, dealt_moved, loaded}
@@ -27,7 +27,7 @@ remove-requires-clause-there c = λ net.
     let chips = c.args.self.now.chip_of.items in
     let from = is_from c.args.self.now c.args.cell c.index-from.result.now c.requires.cell c.index-from.ensures in
     let load = loaded c.args.self.now c.index-from.result.now c.index_mut-left.result.now (from-low c.args.self.now c.args.cell c.index-from.result.now c.requires.cell c.index-from.ensures) c.index_mut-left.ensures.value in
-    let least : times_among c.at-own.result.now net ≤ cells_held chips cell_nets.of_cells.items c.index-from.result.now net = subst (λ (nets : List ℕ). times_among nets net ≤ cells_held chips cell_nets.of_cells.items c.index-from.result.now net) (sym c.at-own.ensures) (subst (λ (chip : ℕ). times_among (nets_at cell_nets c.args.cell) net ≤ cells_held chips cell_nets.of_cells.items chip net) (sym from) (held_least chips cell_nets.of_cells.items c.args.cell net c.requires.cell)) in
+    let least : times_among c.at-own.result.now net ≤ cells_held chips cell_nets.of_cells.items c.index-from.result.now net = subst (λ (nets : List ℕ). times_among nets net ≤ cells_held chips cell_nets.of_cells.items c.index-from.result.now net) (sym c.at-own.ensures) (subst (λ (chip : ℕ). times_among (cell_nets_at cell_nets c.args.cell) net ≤ cells_held chips cell_nets.of_cells.items chip net) (sym from) (held_least chips cell_nets.of_cells.items c.args.cell net c.requires.cell)) in
     omega (arith, load.counts net, least)
 
 pub remove-requires-clause-gains : goal.remove-requires-clause-gains
@@ -88,8 +88,8 @@ invariant_of-self c =
     let found : old ≡ get_or loads chip new = c.index_mut-joined.ensures.value ∙ get_or-set_other loads c.index-from.result.now chip new_from old (λ same. c.requires.target.away (sym from ∙ sym same)) ∙ get_or_default loads chip old new within in
     let raw_less : HasCellMore own new_from old_from = record { cells = sym c.remove.ensures.cells; long = sym c.remove.ensures.long; counts = λ net. sym (c.remove.ensures.held net) } in
     let raw : HasCellMore own old new = record { cells = c.add.ensures.cells; long = c.add.ensures.long; counts = c.add.ensures.held } in
-    let less : HasCellMore (nets_at cell_nets cell) new_from (get_or loads (get_or chips cell 0) new_from) = subst (λ (nets : List ℕ). HasCellMore nets new_from (get_or loads (get_or chips cell 0) new_from)) c.at-own.ensures (subst (λ (load : Load). HasCellMore own new_from load) found_from raw_less) in
-    let more : HasCellMore (nets_at cell_nets cell) (get_or loads chip new) new = subst (λ (nets : List ℕ). HasCellMore nets (get_or loads chip new) new) c.at-own.ensures (subst (λ (load : Load). HasCellMore own load new) found raw) in
+    let less : HasCellMore (cell_nets_at cell_nets cell) new_from (get_or loads (get_or chips cell 0) new_from) = subst (λ (nets : List ℕ). HasCellMore nets new_from (get_or loads (get_or chips cell 0) new_from)) c.at-own.ensures (subst (λ (load : Load). HasCellMore own new_from load) found_from raw_less) in
+    let more : HasCellMore (cell_nets_at cell_nets cell) (get_or loads chip new) new = subst (λ (nets : List ℕ). HasCellMore nets (get_or loads chip new) new) c.at-own.ensures (subst (λ (load : Load). HasCellMore own load new) found raw) in
     let between = gains_between deal c.index-from.result.now new_from between_frees c.as_slice.result.now low c.as_slice.ensures.value c.remove.ensures.gains c.remove.ensures.others in
     record {
       is = dealt_moved deal.board.now cell_nets chips _ loads _ cell chip new_from new deal.is c.requires.cell c.requires.target refl (ap (λ (x : ℕ). set (set loads x new_from) chip new) from) less more;

@@ -1,13 +1,13 @@
 use Rattle.std.proofs.Common.{◌≡◌, ◌∙◌, ◌≤◌, ℕ, List, length, get_or, eqb, ap, arith}
 use Rattle.std.proofs.lemmas.List.Sums.{count_by-le-length}
-use Rattle.vw_part.specs.Steps.Deals.{cells_held, freed, nets_at}
+use Rattle.vw_part.specs.Steps.Deals.{cells_held, freed, cell_nets_at}
 use Rattle.vw_part.specs.declared.cell_nets.CellNets.{CellNets}
 use Rattle.vw_part.proofs.Dealing.{met-le}
 use Rattle.vw_part.proofs.KeptDeals.{freed_is}
 use Rattle.vw_part.proofs.deal.Deal.target.Goals as goal
 
-freed-le : (cell_nets : CellNets) (chips : List ℕ) (cell : ℕ) → freed cell_nets chips cell ≤ length (nets_at cell_nets cell)
-freed-le cell_nets chips cell = count_by-le-length (λ net. eqb (cells_held chips cell_nets.of_cells.items (get_or chips cell 0) net) 1) (nets_at cell_nets cell)
+freed-le : (cell_nets : CellNets) (chips : List ℕ) (cell : ℕ) → freed cell_nets chips cell ≤ length (cell_nets_at cell_nets cell)
+freed-le cell_nets chips cell = count_by-le-length (λ net. eqb (cells_held chips cell_nets.of_cells.items (get_or chips cell 0) net) 1) (cell_nets_at cell_nets cell)
 
 -- where the cell frees no net, no move helps
 pub returns-then-lone-eq0 : goal.returns-then-lone-eq0

@@ -2,7 +2,7 @@ use Rattle.std.proofs.Common.{◌≡◌, ◌≤◌, ◌-◌, ◌==◌, ℕ, List
 use Rattle.std.specs.Prelude.{option_map}
 use Rattle.std.proofs.lemmas.Bool.{eqb-false}
 use Rattle.vw_plan.specs.declared.wire.Hop.{Hop}
-use Rattle.vw_plantext.specs.Steps.Bodies.{UnfinishedWire, part_of, state_of, is_complete_but, HasSomeLeft, TakesPlanLine}
+use Rattle.vw_plantext.specs.Steps.Bodies.{UnfinishedWire, part_of, body_state, is_complete_but, HasSomeLeft, TakesPlanLine}
 use Rattle.vw_plantext.proofs.HopAndWireLines.{refuses_hop, takes_hop, refuses_wire, takes_wire}
 use Rattle.vw_plantext.proofs.body.Body.take.Goals as goal
 
@@ -18,17 +18,17 @@ returns-in_default c =
     let is : option_map part_of c.args.self.wire ≡ Some (part_of c.in-Some.wire) = ap (option_map part_of) c.in-Some.is in
     let some : HasSomeLeft (Some (part_of c.in-Some.wire)) = subst HasSomeLeft is c.requires.some_left in
     let none = rw c.in_default.is at c.in_ok-hop-in-Some.ensures in
-    refuses_hop (state_of c.args.self) c.requires.fits (part_of c.in-Some.wire) is c.args.line.now some none
+    refuses_hop (body_state c.args.self) c.requires.fits (part_of c.in-Some.wire) is c.args.line.now some none
 
 pub returns-in_default-2 : goal.returns-in_default-2
 returns-in_default-2 c =
     let is : option_map part_of c.args.self.wire ≡ None = ap (option_map part_of) c.in-None.is in
     let none = rw c.in_default-2.is at c.in_ok-wire-in-None.ensures in
-    refuses_wire (state_of c.args.self) c.requires.fits is c.args.line.now (some_wires (option_map part_of c.args.self.wire) c.args.self.left is c.requires.incomplete) none
+    refuses_wire (body_state c.args.self) c.requires.fits is c.args.line.now (some_wires (option_map part_of c.args.self.wire) c.args.self.left is c.requires.incomplete) none
 
 pub returns-in_ok-with_hop-in-Some : goal.returns-in_ok-with_hop-in-Some
 returns-in_ok-with_hop-in-Some c =
-    let state = state_of c.args.self in
+    let state = body_state c.args.self in
     let is : option_map part_of c.args.self.wire ≡ Some (part_of c.in-Some.wire) = ap (option_map part_of) c.in-Some.is in
     let some : HasSomeLeft (Some (part_of c.in-Some.wire)) = subst HasSomeLeft is c.requires.some_left in
     let hop = rw c.in-Some-2.is at c.in_ok-hop-in-Some.ensures in
@@ -37,7 +37,7 @@ returns-in_ok-with_hop-in-Some c =
 
 pub returns-in-Some-3 : goal.returns-in-Some-3
 returns-in-Some-3 c =
-    let state = state_of c.args.self in
+    let state = body_state c.args.self in
     let wire = c.in-Some-3.wire in
     let is : option_map part_of c.args.self.wire ≡ None = ap (option_map part_of) c.in-None.is in
     let head = rw c.in-Some-3.is at c.in_ok-wire-in-None.ensures in

@@ -25,7 +25,7 @@ pub loop-self-smaller : goal.loop-self-smaller
 loop-self-smaller g c =
     let kept = c.loop-self.invariant in
     let done = c.in_ok-take.ensures in
-    let missing : length c.loop-self.self.rows.items < c.loop-self.self.wanted = omega (c.loop-self-test.true, c.len.ensures, c.loop-self.self.rows.ok.0, arith) in
+    let missing : length c.loop-self.self.rows < c.loop-self.self.wanted = omega (c.loop-self-test.true, c.len.ensures, arith) in
     let some : 0 < length (take c.in_ok-count.count (c.read_piece.new.into ++ drop c.room-asked.result c.loop-self.piece)) =
     omega (length-take c.in_ok-count.count (c.read_piece.new.into ++ drop c.room-asked.result c.loop-self.piece), length-append c.read_piece.new.into (drop c.room-asked.result c.loop-self.piece), c.in_ok-count.ensures.within, c.if-count-eq0.false, arith) in
     less_to_read c.loop-self.self c.take.new.self missing kept.fit.limit (piece_read c.args.before.now _ c.loop-self.self c.take.new.self some done.takes)
@@ -62,5 +62,5 @@ returns-in_err-take-clause-gathers g c =
 pub returns-clause-gathers : goal.returns-clause-gathers
 returns-clause-gathers g c =
     let kept = c.loop-self.invariant in
-    let full : length c.loop-self.self.rows.items ≡ c.loop-self.self.wanted = omega (c.loop-self-test.false, c.len.ensures, c.loop-self.self.rows.ok.0, kept.fit.rows.within, arith) in
+    let full : length c.loop-self.self.rows ≡ c.loop-self.self.wanted = omega (c.loop-self-test.false, c.len.ensures, kept.fit.rows.within, arith) in
     settled_gathers _ c.args.before.now c.args.self.now c.loop-self.self kept.reads (kept.fit.settled full) kept.fit.limit

@@ -18,7 +18,7 @@ returns-in_err-gather-clause-gathers g c =
     let start : Batch = record { scan = c.new.result; at = s.at; read = s.at; rows = c.new-2.result; wanted = c.args.wanted; owed = s.owed } in
     let mid = c.give_copies.new.self in
     let gives = c.in_ok-give_copies.ensures in
-    let gathered = gathered_at_start s start mid new.line new.width new.number new.clocks refl refl c.new-2.ensures.items refl s.wide gives in
+    let gathered = gathered_at_start s start mid new.line new.width new.number new.clocks refl refl c.new-2.ensures refl s.wide gives in
     rw (p.1, p.2) (never_fails _ s c.args.wanted mid c.gather.new.self c.in_err-gather.field-0.0 gathered gives.places.read gives.places.wanted c.in_err-gather.ensures.gathers c.requires.few c.requires.stands)
 
 pub returns-clause-gathers : goal.returns-clause-gathers
@@ -28,6 +28,6 @@ returns-clause-gathers g c =
     let start : Batch = record { scan = c.new.result; at = s.at; read = s.at; rows = c.new-2.result; wanted = c.args.wanted; owed = s.owed } in
     let mid = c.give_copies.new.self in
     let gives = c.in_ok-give_copies.ensures in
-    let gathered = gathered_at_start s start mid new.line new.width new.number new.clocks refl refl c.new-2.ensures.items refl s.wide gives in
+    let gathered = gathered_at_start s start mid new.line new.width new.number new.clocks refl refl c.new-2.ensures refl s.wide gives in
     let done = c.in_ok-gather.ensures in
     gathered_next _ s c.args.wanted mid c.gather.new.self gathered gives.places.read done.gathers done.fit (done.full ∙ gives.places.wanted) c.requires.stands
