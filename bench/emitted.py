@@ -3,15 +3,17 @@
 
     bench/emitted.py PROGRAM [CLOCKS] [SEED]
 
-PROGRAM is a built vwires; yosys and Icarus Verilog (iverilog, vvp) have to be installed. yosys makes five designs from
-Verilog. Each is planned on a ring of chips, with a row by chance for each of CLOCKS clocks (default 300). Three things
-are compared clock by clock: the trace of `run` by the plan; that of `sim` over the emitted board, each row held for
-P + 1 clocks, P being the period, in the last of these clocks; and what Icarus Verilog prints in these clocks, of the
-Verilog that yosys makes of the emitted board. It prints a table in Markdown, and ends with 1 where something differs.
+PROGRAM is a built vwires, a path or a name on PATH; yosys and Icarus Verilog (iverilog, vvp) have to be installed. yosys
+makes five designs from Verilog. Each is planned on a ring of chips, with a row by chance for each of CLOCKS clocks (default
+300). Three things are compared clock by clock: the trace of `run` by the plan; that of `sim` over the emitted board, each
+row held for P + 1 clocks, P being the period, in the last of these clocks; and what Icarus Verilog prints in these clocks,
+of the Verilog that yosys makes of the emitted board. It prints a table in Markdown, and ends with 1 where something
+differs.
 """
 import pathlib
 import random
 import re
+import shutil
 import subprocess
 import sys
 import tempfile
@@ -234,10 +236,10 @@ def compare(program, name, source, clocks, chance, folder):
 def main():
     if len(sys.argv) < 2:
         sys.exit(__doc__)
-    program = pathlib.Path(sys.argv[1]).resolve()
+    program = pathlib.Path(shutil.which(sys.argv[1]) or sys.argv[1]).resolve()
     clocks = int(sys.argv[2]) if len(sys.argv) > 2 else 300
     chance = random.Random(int(sys.argv[3]) if len(sys.argv) > 3 else 1)
-    print("| design | cells | period | cells of its board | text, kB | clocks | differ in `sim` | in Icarus |")
+    print("| design | cells | period | cells of its board | text, kB | clocks | differ in `sim` | differ in Icarus |")
     print("|---|---|---|---|---|---|---|---|")
     wrong = 0
     for name, source in MODULES.items():

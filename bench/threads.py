@@ -3,10 +3,10 @@
 
     bench/threads.py PROGRAM RUNS [SEED]
 
-PROGRAM is a built vwires. Designs, boards and stimuli are made by chance from SEED. A run that takes longer than a minute is stopped
-and counts as one that hangs. The texts of each run that differs or hangs are kept in a folder whose name is printed. At the end it
-prints how much longer the runs took than those of one worker, all in all and at the most, and ends with 1 where a run differs or
-hangs. Let something else keep the processors busy beside it.
+PROGRAM is a built vwires, a path or a name on PATH. Designs, boards and stimuli are made by chance from SEED. A run that
+takes longer than a minute is stopped and counts as one that hangs. The texts of each run that differs or hangs are kept in
+a folder whose name is printed. At the end it prints how much longer the runs took than those of one worker, all in all and
+at the most, and ends with 1 where a run differs or hangs. Let something else keep the processors busy beside it.
 """
 import os
 import random
@@ -98,7 +98,9 @@ def fault_of(program, words, folder, alone):
 
 
 def main():
-    program, runs = os.path.abspath(sys.argv[1]), int(sys.argv[2])
+    if len(sys.argv) < 3:
+        sys.exit(__doc__)
+    program, runs = os.path.abspath(shutil.which(sys.argv[1]) or sys.argv[1]), int(sys.argv[2])
     chance = random.Random(int(sys.argv[3]) if len(sys.argv) > 3 else 1)
     done = bad = 0
     times, times_alone, longest = 0.0, 0.0, (0.0, "")

@@ -3,13 +3,13 @@
 
     bench/traces.py PROGRAM [CLOCKS] [SEED]
 
-PROGRAM is a built vwires. yosys makes seven designs by the recipe of docs/formats.md, with its line that keeps the names of
-registers: a UART with a queue of eight bytes and a datapath, each driven by a test bench in Verilog (bench/verilog), and
-the five designs of bench/emitted.py, with a row by chance for each clock. The test benches print the inputs of each of
-CLOCKS clocks (default 2,000), the outputs and the registers; the inputs are the stimulus, and the registers are probed.
-Icarus Verilog simulates the Verilog itself, and what it says is compared with the trace of `sim` and with that of `run`
-on a ring of four chips with two workers. It prints a table in Markdown, and ends with 1 where something differs. Where
-yosys, iverilog or vvp isn't installed, it says so, compares nothing and ends with 0.
+PROGRAM is a built vwires, a path or a name on PATH. yosys makes seven designs by the recipe of docs/formats.md, with its
+line that keeps the names of registers: a UART with a queue of eight bytes and a datapath, each driven by a test bench in
+Verilog (bench/verilog), and the five designs of bench/emitted.py, with a row by chance for each clock. The test benches
+print the inputs of each of CLOCKS clocks (default 2,000), the outputs and the registers; the inputs are the stimulus, and
+the registers are probed. Icarus Verilog simulates the Verilog itself, and what it says is compared with the trace of `sim`
+and with that of `run` on a ring of four chips with two workers. It prints a table in Markdown, and ends with 1 where
+something differs. Where yosys, iverilog or vvp isn't installed, it says so, compares nothing and ends with 0.
 """
 import pathlib
 import random
@@ -133,7 +133,7 @@ def main():
     if missing:
         print(f"not installed, so nothing was compared: {' '.join(missing)}")
         return
-    program = pathlib.Path(sys.argv[1]).resolve()
+    program = pathlib.Path(shutil.which(sys.argv[1]) or sys.argv[1]).resolve()
     clocks = int(sys.argv[2]) if len(sys.argv) > 2 else 2000
     chance = random.Random(int(sys.argv[3]) if len(sys.argv) > 3 else 1)
     print("| design | cells | latches | outputs | probes | clocks | differ in `sim` | differ in `run` |")
