@@ -34,7 +34,7 @@ abbrev pub IsFoundIn : ℕ → ℕ → List ℕ → StimFault → Result (List (
 IsFoundIn wanted number bytes fault (Err first) = fault ≡ first
 IsFoundIn wanted number bytes fault (Ok rows) = (length rows < wanted) × (fault ≡ BadLine (number + length (text_lines bytes)))
 
--- so many rows don't come next: of some bytes, read from the place of a stimulus on, this is the fault
+-- so many rows don't come next: of some bytes, taken for the text from the place of a stimulus on, this is the fault
 abbrev pub HasNoNext : ℕ → Stimulus → StimFault → Type 0
 HasNoNext wanted stimulus fault = (bytes : List ℕ) × IsFoundIn wanted stimulus.line bytes fault (rows_left stimulus bytes)
 

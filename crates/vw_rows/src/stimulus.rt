@@ -166,7 +166,7 @@ impl Stimulus {
         ensures width { IfOk result (All (λ row. length row ≡ self.old.width)) }
         ensures unmoved { OnErr result (self.new ≡ self.old) }
 
-        // A fault that lies in the text is that of bytes which were read as the text, from where the stimulus stood.
+        // A fault that lies in the text is that of some bytes, taken for the text from where the stimulus stood.
         ensures refused { IfErr result (λ fault. is_text_fault fault ≡ true
             → HasNoNext (min most (self.old.clocks - self.old.done)) self.old fault) }
 
