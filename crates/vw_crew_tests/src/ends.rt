@@ -47,7 +47,6 @@ fn take_up_to<E: TakeEnd>(
 }
 
 /// What came of puts and takes.
-#[derive(Drop)]
 pub struct Exchange {
     /// The words that were taken before any was put.
     pub before: Vec<Word>,
@@ -59,6 +58,18 @@ pub struct Exchange {
     pub put_then: usize,
     /// The words that were taken then.
     pub rest: Vec<Word>,
+}
+
+impl Drop for Exchange {
+    fn drop(self) {
+        let Exchange {
+            before: _,
+            put: _,
+            first: _,
+            put_then: _,
+            rest: _,
+        } = self;
+    }
 }
 
 /// Takes a word; puts all words up to the first refusal; takes one; puts all up to the next refusal; and takes all others.

@@ -38,13 +38,24 @@ fn expected(alloc: Global, times: usize) -> Result<Vec<Word>, AllocError> {
 
 /// What the ends of a link answer, what it has carried then, what after a lay in which nothing is taken, what after a second
 /// exchange, and what the link before it has carried.
-#[derive(Drop)]
 struct Outcome {
     exchange: Exchange,
     once: Vec<Word>,
     still: Vec<Word>,
     twice: Vec<Word>,
     other: Vec<Word>,
+}
+
+impl Drop for Outcome {
+    fn drop(self) {
+        let Outcome {
+            exchange: _,
+            once: _,
+            still: _,
+            twice: _,
+            other: _,
+        } = self;
+    }
 }
 
 /// Lays link 3 three times: for an exchange, for nothing, and for another exchange.
@@ -90,19 +101,17 @@ fn counts_of(outcome: &Outcome) -> [usize; 9] {
 }
 
 /// The words that were taken, and then all that were carried after each lay.
-fn all_words(outcome: Outcome) -> Result<Vec<Word>, AllocError> {
-    let Outcome {
-        exchange,
-        once,
-        still,
-        twice,
-        ..
-    } = outcome;
-    let mut words = exchange.first;
-    words.extend_from_slice(&exchange.rest)?;
-    words.extend_from_slice(&once)?;
-    words.extend_from_slice(&still)?;
-    words.extend_from_slice(&twice)?;
+fn all_words(alloc: Global, outcome: &Outcome) -> Result<Vec<Word>, AllocError> {
+    let mut words = Vec::new(alloc);
+    for part in [
+        &outcome.exchange.first,
+        &outcome.exchange.rest,
+        &outcome.once,
+        &outcome.still,
+        &outcome.twice,
+    ] {
+        words.extend_from_slice(part)?;
+    }
     Ok(words)
 }
 
@@ -136,7 +145,7 @@ fn toggle_outcome<R: Wait + Copy + Send>(rt: R, alloc: Global) -> Result<Outcome
 fn a_link_carries_its_script_once_and_in_order(rt: HostRuntime) -> Result<(), Fail> {
     let outcome = toggle_outcome(rt, rt.alloc())?;
     assert_eq!(rt; counts_of(&outcome), [0, 64, 1, 65, 64, 65, 65, 130, 0]);
-    let words = all_words(outcome)?;
+    let words = all_words(rt.alloc(), &outcome)?;
     assert_eq!(rt; words, expected(rt.alloc(), 5)?);
     Ok(())
 }

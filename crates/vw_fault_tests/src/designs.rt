@@ -1,12 +1,18 @@
 use crate::grading::{graded, graded_text, number_of};
 use crate::netlists::{Netlist, Part, gate, made, name, ordered, stimulus};
 use crate::plainly::plainly_open;
-use std::alloc::Global;
+use std::alloc::{AllocError, Global};
 use std::marker::Sync;
 use std::process::Abort;
 use std::test::Fail;
 use std::thread::Threads;
 use vw_net::{Cell, Init, Ordered, Rows};
+use vw_outside::Name;
+
+/// Asserts that these faults are found with so many workers.
+fn are_same(rt: &impl Abort, found: &[u32], wanted: &[u32], workers: u32) {
+    assert_eq!(rt; found, wanted, "with {workers} workers");
+}
 
 /// Asserts which faults are open, with 1, 2, 8 and 64 workers.
 fn are_open<R: Threads + Abort + Sync>(
@@ -19,7 +25,7 @@ fn are_open<R: Threads + Abort + Sync>(
     let rows = stimulus(alloc, rows)?;
     for workers in &[1, 2, 8, 64] {
         let found = graded(rt, alloc, ordered, &rows, *workers)?;
-        assert_eq!(rt; found.as_slice(), wanted, "with {workers} workers");
+        are_same(rt, &found, wanted, *workers);
     }
     Ok(())
 }
@@ -54,6 +60,27 @@ fn no_row_reveals_anything(rt: HostRuntime) -> Result<(), Fail> {
     are_open(&rt, alloc, &made(alloc, &TOGGLE)?, &[], &[0, 1, 2, 3, 4, 5])
 }
 
+/// The names of the toggle's nets.
+fn toggle_names(alloc: Global) -> Result<Vec<Name>, AllocError> {
+    let mut names = Vec::new(alloc);
+    for word in &["en", "d", "q"] {
+        names.push(name(alloc, word.as_bytes())?)?;
+    }
+    Ok(names)
+}
+
+/// The text of the toggle's grading.
+fn toggle_text<R: Threads + Sync>(
+    rt: &R,
+    alloc: Global,
+    rows: &Rows,
+    workers: u32,
+) -> Result<Vec<u8>, Fail> {
+    let ordered = made(alloc, &TOGGLE)?;
+    let names = toggle_names(alloc)?;
+    graded_text(rt, alloc, &ordered, &names, rows, workers)
+}
+
 /// Asserts the text of the toggle's grading, with 1, 2 and 64 workers.
 fn is_text<R: Threads + Abort + Sync>(
     rt: &R,
@@ -61,11 +88,9 @@ fn is_text<R: Threads + Abort + Sync>(
     rows: &[&str],
     wanted: &str,
 ) -> Result<(), Fail> {
-    let ordered = made(alloc, &TOGGLE)?;
     let rows = stimulus(alloc, rows)?;
-    let names = vec![in alloc; name(alloc, b"en")?, name(alloc, b"d")?, name(alloc, b"q")?]?;
     for workers in &[1, 2, 64] {
-        let text = graded_text(rt, alloc, &ordered, &names, &rows, *workers)?;
+        let text = toggle_text(rt, alloc, &rows, *workers)?;
         assert!(rt; text.as_slice() == wanted.as_bytes());
     }
     Ok(())
@@ -183,7 +208,11 @@ fn tables_of_each_width_are_graded_as_one_fault_at_a_time(rt: HostRuntime) -> Re
         "00100100", "00011000", "11110000", "00001111", "10110111", "01001000", "11011011",
     ];
     are_open_alike(&rt, rt.alloc(), &TABLES, rows)?;
-    are_open_alike(&rt, rt.alloc(), &TABLES, &rows[..3])?;
+    are_open_alike(&rt, rt.alloc(), &TABLES, &rows[..3])
+}
+
+#[test]
+fn a_toggle_that_rests_is_graded_as_one_fault_at_a_time(rt: HostRuntime) -> Result<(), Fail> {
     are_open_alike(&rt, rt.alloc(), &TOGGLE, &["0", "1", "0", "1"])
 }
 
@@ -204,17 +233,27 @@ fn latched(alloc: Global, count: u32) -> Result<Ordered, Fail> {
     ordered(alloc, count, cells, &outputs)
 }
 
-#[test]
-fn as_many_inputs_and_outputs_as_there_may_be_are_graded(rt: HostRuntime) -> Result<(), Fail> {
-    let alloc = rt.alloc();
-    let ordered = latched(alloc, 4_096)?;
+/// A row of ones and a row of zeros.
+fn ones_and_zeros(alloc: Global, width: usize) -> Result<Rows, AllocError> {
     let mut rows = Rows::new(alloc);
     for bit in &[true, false] {
-        rows.push(&vec![in alloc; *bit; 4_096]?)?;
+        rows.push(&vec![in alloc; *bit; width]?)?;
     }
+    Ok(rows)
+}
+
+/// The open faults of so many latches, over a row of ones and a row of zeros.
+fn open_of_latches<R: Threads + Sync>(rt: &R, alloc: Global, count: u32) -> Result<Vec<u32>, Fail> {
+    let ordered = latched(alloc, count)?;
+    let rows = ones_and_zeros(alloc, count as usize)?;
+    graded(rt, alloc, &ordered, &rows, 8)
+}
+
+#[test]
+fn as_many_inputs_and_outputs_as_there_may_be_are_graded(rt: HostRuntime) -> Result<(), Fail> {
+    let found = open_of_latches(&rt, rt.alloc(), 4_096)?;
     // an input that is stuck at 1 would be seen a clock after the row of zeros
-    let wanted = ones(alloc, 4_096)?;
-    let found = graded(&rt, alloc, &ordered, &rows, 8)?;
-    assert!(&rt; found.as_slice() == wanted.as_slice());
+    let wanted = ones(rt.alloc(), 4_096)?;
+    assert!(rt; found.as_slice() == wanted.as_slice());
     Ok(())
 }

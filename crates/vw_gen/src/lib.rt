@@ -13,6 +13,3 @@ pub use boards::board;
 pub use designs::design;
 pub use stimuli::stimulus;
 pub use summaries::summary;
-
-#[cfg(test)]
-mod tests;

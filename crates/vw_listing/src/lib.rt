@@ -3,8 +3,6 @@
 
 mod lines;
 mod netlist;
-#[cfg(test)]
-mod tests;
 mod words;
 
 pub use netlist::netlist_text;

@@ -22,7 +22,7 @@ fn answer(alloc: Global, inputs: u32, cells: Vec<Cell>) -> Result<Listed, Fail> 
     match order(alloc, flat) {
         Ok(ordered) => Ok(Listed {
             is_order: true,
-            numbers: ordered.order,
+            numbers: Sequence::of(ordered.order().to_vec(alloc)?),
         }),
         Err(refused) => {
             let OrderRefused { fault, .. } = refused;

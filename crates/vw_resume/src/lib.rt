@@ -21,6 +21,3 @@ pub use resuming::run_from;
 pub use saving::save;
 pub use state::State;
 pub use vw_trace::RunFault as ResumeFault;
-
-#[cfg(test)]
-mod tests;

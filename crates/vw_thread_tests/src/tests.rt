@@ -14,6 +14,7 @@ use vw_samples::{
     TOGGLE_TRACE, TRIANGLE,
 };
 
+mod files;
 mod fronts;
 mod gates;
 mod laid;

@@ -12,6 +12,3 @@ mod wave;
 pub use heads::head;
 pub use laws::{identifiers_differ, waves_join, waves_replay};
 pub use wave::Wave;
-
-#[cfg(test)]
-mod tests;

@@ -1,8 +1,8 @@
 //! Texts of netlists, worked out by hand.
-use crate::netlist_text;
 use std::alloc::{AllocError, Global};
 use std::process::Abort;
 use std::test::Fail;
+use vw_listing::netlist_text;
 use vw_net::{Cell, Flat, Init, Sequence};
 use vw_outside::Name;
 

@@ -1,7 +1,7 @@
-//! Texts worked out by hand, and each call near its limit.
-use crate::{board, design, stimulus};
+//! Generated texts worked out by hand, and each call near its limit.
 use std::process::Abort;
 use std::test::Fail;
+use vw_gen::{board, design, stimulus};
 
 /// The design of four cells: three gates and a latch.
 const FOUR: &[u8] = b".model demo
