@@ -10,12 +10,20 @@ use vw_prog::{Answer, Job};
 
 /// Room for the latches of a job: those of each clock, and those after the last. Its chips, which are done, put theirs into it
 /// one after the other.
-#[derive(Drop)]
 pub struct Room {
     /// For each clock a bit for each latch, in the order of the cells.
     pub latches: Rows,
     /// A bit for each latch, after the last clock.
     pub last: Bits,
+}
+
+impl Drop for Room {
+    fn drop(self) {
+        let Room {
+            latches: _,
+            last: _,
+        } = self;
+    }
 }
 
 impl Room {

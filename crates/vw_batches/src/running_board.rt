@@ -16,10 +16,18 @@ use vw_trace::{Batch, Engine};
 use vw_world::World;
 
 /// A board with the programs of its nodes, and the job that it has run last. Contracts see the job.
-#[derive(Drop)]
 pub struct RunningBoard {
     programs: Programs,
     job: Job,
+}
+
+impl Drop for RunningBoard {
+    fn drop(self) {
+        let RunningBoard {
+            programs: _,
+            job: _,
+        } = self;
+    }
 }
 
 impl Model for RunningBoard {

@@ -15,13 +15,22 @@ use vw_net::Sequence;
 use vw_plan::{Board, Link};
 
 /// How far the nodes of a board are from each other. Contracts see it as the board.
-#[derive(Drop)]
 pub struct Distances {
     board: Snapshot<Board>,
     /// For each node that is led to, the distance of each node.
     distances: Sequence<Sequence<u32>>,
     /// For each node that is led to, the first step from each other node.
     steps: Sequence<Sequence<u32>>,
+}
+
+impl Drop for Distances {
+    fn drop(self) {
+        let Distances {
+            board: _,
+            distances: _,
+            steps: _,
+        } = self;
+    }
 }
 
 impl Model for Distances {

@@ -12,9 +12,14 @@ use vw_plan::{Hop, Plan, Wire};
 
 /// The pins that hops use, each with the wire and the number of the hop that uses it first. A pin is given by the nodes of
 /// its link, its number and the microcycle. The hasher is SipHash, since strangers write plans.
-#[derive(Drop)]
 pub struct PinUsers {
     pub users: HashMap<((u32, u32), (u32, u64)), (u32, u32), BuildHasherDefault<DefaultHasher>>,
+}
+
+impl Drop for PinUsers {
+    fn drop(self) {
+        let PinUsers { users: _ } = self;
+    }
 }
 
 impl PinUsers {

@@ -7,7 +7,6 @@ use crate::model::Model;
 use vw_net::Sequence;
 
 /// A design: its models in the order of the text, of which the first is the root.
-#[derive(Drop)]
 pub struct Design {
     /// At least one model, and fewer than 2 ^ 32.
     pub models: Sequence<Model>,
@@ -15,6 +14,12 @@ pub struct Design {
     ghost few: { length models < 2 ^ 32 },
     ghost named: { IsTrue (are_distinct (map (λ model. model.name) models)) },
     ghost well_made: { All IsWellMade models },
+}
+
+impl Drop for Design {
+    fn drop(self) {
+        let Design { models: _ } = self;
+    }
 }
 
 impl Design {

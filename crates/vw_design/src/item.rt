@@ -15,10 +15,18 @@ pub enum Edge {
 }
 
 /// A binding of a placed model: a port of it, and the net that it is joined to.
-#[derive(Drop)]
 pub struct Bind {
     pub formal: Name,
     pub actual: Name,
+}
+
+impl Drop for Bind {
+    fn drop(self) {
+        let Bind {
+            formal: _,
+            actual: _,
+        } = self;
+    }
 }
 
 impl Bind {
@@ -46,7 +54,6 @@ impl Bind {
 }
 
 /// What a model has beside its ports. Each has the number of the line on which it begins, from 1.
-#[derive(Drop)]
 pub enum Item {
     /// A table over the nets `ins`, in the order of the table's inputs, that drives `out`.
     Names {
@@ -70,4 +77,30 @@ pub enum Item {
         model: Name,
         binds: Sequence<Bind>,
     },
+}
+
+impl Drop for Item {
+    fn drop(self) {
+        match self {
+            Item::Names {
+                line: _,
+                ins: _,
+                out: _,
+                cover: _,
+            } => {}
+            Item::Latch {
+                line: _,
+                d: _,
+                q: _,
+                edge: _,
+                control: _,
+                init: _,
+            } => {}
+            Item::Sub {
+                line: _,
+                model: _,
+                binds: _,
+            } => {}
+        }
+    }
 }

@@ -5,13 +5,24 @@ use vw_net::Sequence;
 use vw_outside::Name;
 
 /// A model: its ports in the order in which they are declared, and its items in the order of the text.
-#[derive(Drop)]
 pub struct Model {
     pub name: Name,
     pub inputs: Sequence<Name>,
     pub outputs: Sequence<Name>,
     pub clocks: Sequence<Name>,
     pub items: Sequence<Item>,
+}
+
+impl Drop for Model {
+    fn drop(self) {
+        let Model {
+            name: _,
+            inputs: _,
+            outputs: _,
+            clocks: _,
+            items: _,
+        } = self;
+    }
 }
 
 impl Model {

@@ -14,9 +14,14 @@ use vw_outside::Name;
 
 /// A set of words that lie elsewhere. Its hasher is SipHash: whoever writes a text chooses its words, and under the map's
 /// own hasher it is easy to find many words that collide.
-#[derive(Drop)]
 pub struct WordSet<'a> {
     pub words: HashMap<&'a [u8], (), BuildHasherDefault<DefaultHasher>>,
+}
+
+impl Drop for WordSet<'_> {
+    fn drop(self) {
+        let WordSet { words: _ } = self;
+    }
 }
 
 impl<'a> WordSet<'a> {

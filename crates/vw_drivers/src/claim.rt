@@ -15,10 +15,15 @@ pub enum Claim {
 }
 
 /// A claim on a name that a port or an earlier item of the model has claimed, or the item itself before.
-#[derive(Drop)]
 pub struct RepeatedClaim {
     pub item: u32,
     pub name: Name,
+}
+
+impl Drop for RepeatedClaim {
+    fn drop(self) {
+        let RepeatedClaim { item: _, name: _ } = self;
+    }
 }
 
 impl RepeatedClaim {

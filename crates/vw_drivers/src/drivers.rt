@@ -15,12 +15,20 @@ use vw_design::Design;
 use vw_net::Sequence;
 
 /// The drivers of all formals that are bound, by the numbers of instances.
-#[derive(Drop)]
 pub struct Drivers {
     /// For each instance and each binding of the item that places it, the driver of a formal that is no port.
     pub outputs: Sequence<Sequence<Option<Source>>>,
     /// For each instance and each claim of its model, as far as they go, the driver of an input or clock.
     pub ports: Sequence<Sequence<Option<Source>>>,
+}
+
+impl Drop for Drivers {
+    fn drop(self) {
+        let Drivers {
+            outputs: _,
+            ports: _,
+        } = self;
+    }
 }
 
 impl Drivers {

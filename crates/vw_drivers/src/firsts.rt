@@ -12,9 +12,14 @@ use vw_outside::Name;
 
 /// The claimed names of a model, each with the first claim on it, in the order in which they are first claimed.
 /// Contracts see it as this list. Its hasher is SipHash, since whoever writes a text chooses its names.
-#[derive(Drop)]
 pub struct Firsts {
     claims: IndexMap<Vec<u8>, Claim, BuildHasherDefault<DefaultHasher>>,
+}
+
+impl Drop for Firsts {
+    fn drop(self) {
+        let Firsts { claims: _ } = self;
+    }
 }
 
 impl Model for Firsts {

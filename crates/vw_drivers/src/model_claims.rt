@@ -6,10 +6,18 @@ use crate::claim::{Claim, RepeatedClaim};
 use crate::firsts::Firsts;
 
 /// The first claim on each claimed name of a model, and the first item that claims a name again.
-#[derive(Drop)]
 pub struct ModelClaims {
     pub firsts: Firsts,
     pub again: Option<RepeatedClaim>,
+}
+
+impl Drop for ModelClaims {
+    fn drop(self) {
+        let ModelClaims {
+            firsts: _,
+            again: _,
+        } = self;
+    }
 }
 
 impl ModelClaims {

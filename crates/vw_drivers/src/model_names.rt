@@ -13,7 +13,6 @@ pub enum Way {
 }
 
 /// A `.subckt` item by numbers.
-#[derive(Drop)]
 pub struct PlacedNames {
     /// The number of the item in its model, from 0.
     pub item: u32,
@@ -21,14 +20,28 @@ pub struct PlacedNames {
     pub ways: Sequence<Way>,
 }
 
+impl Drop for PlacedNames {
+    fn drop(self) {
+        let PlacedNames { item: _, ways: _ } = self;
+    }
+}
+
 /// The names that the items of a model read and bind, each by the number of the first claim on it.
-#[derive(Drop)]
 pub struct ModelNames {
     /// For each item, the numbers of the first claims on what it reads: inputs of a gate; data input and control of a
     /// latch. None where nothing claims a name.
     pub reads: Sequence<Sequence<Option<u32>>>,
     /// The `.subckt` items, in order.
     pub placed: Sequence<PlacedNames>,
+}
+
+impl Drop for ModelNames {
+    fn drop(self) {
+        let ModelNames {
+            reads: _,
+            placed: _,
+        } = self;
+    }
 }
 
 impl ModelNames {

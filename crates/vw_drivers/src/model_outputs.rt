@@ -9,9 +9,14 @@ use vw_design::{Design, WordSet};
 use vw_outside::Name;
 
 /// The outputs of a model, which lie elsewhere. Contracts see them as a list of their names, in some order.
-#[derive(Drop)]
 pub struct Outputs<'a> {
     names: WordSet<'a>,
+}
+
+impl Drop for Outputs<'_> {
+    fn drop(self) {
+        let Outputs { names: _ } = self;
+    }
 }
 
 impl<'a> Model for Outputs<'a> {

@@ -21,12 +21,22 @@ use vw_net::Sequence;
 
 /// The tables of a design by which its drivers are found: its instances in preorder; and for each model, by its number,
 /// how much stands before each item, the claims on its nets, and the claims on the names of its items.
-#[derive(Drop)]
 pub struct Tables {
     pub instances: Sequence<ListedInstance>,
     pub before: Sequence<Sequence<Before>>,
     pub claims: Sequence<ModelClaims>,
     pub names: Sequence<ModelNames>,
+}
+
+impl Drop for Tables {
+    fn drop(self) {
+        let Tables {
+            instances: _,
+            before: _,
+            claims: _,
+            names: _,
+        } = self;
+    }
 }
 
 impl Tables {

@@ -38,11 +38,20 @@ pub struct Instance {
 }
 
 /// A design without a fault, with its instances, cells, drivers and columns by numbers. Contracts see it as the design.
-#[derive(Drop)]
 pub struct Elaborated {
     design: Design,
     parts: NumberedParts,
     columns: Columns,
+}
+
+impl Drop for Elaborated {
+    fn drop(self) {
+        let Elaborated {
+            design: _,
+            parts: _,
+            columns: _,
+        } = self;
+    }
 }
 
 impl Model for Elaborated {

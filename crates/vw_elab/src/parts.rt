@@ -14,11 +14,20 @@ use vw_net::Sequence;
 use vw_nets::Nets;
 
 /// The instances, the cells and the drivers of a design by numbers.
-#[derive(Drop)]
 pub struct NumberedParts {
     pub tables: Tables,
     pub cells: Sequence<CellSite>,
     pub drivers: Drivers,
+}
+
+impl Drop for NumberedParts {
+    fn drop(self) {
+        let NumberedParts {
+            tables: _,
+            cells: _,
+            drivers: _,
+        } = self;
+    }
 }
 
 impl NumberedParts {

@@ -11,10 +11,15 @@ use crate::words::{Words, spread};
 use std::alloc::{AllocError, Global};
 
 /// For each net the lanes in which readers find its own bit, and those in which they find 1 whatever its bit is.
-#[derive(Drop)]
 pub struct Stuck {
     pub kept: Words,
     pub forced: Words,
+}
+
+impl Drop for Stuck {
+    fn drop(self) {
+        let Stuck { kept: _, forced: _ } = self;
+    }
 }
 
 impl Stuck {

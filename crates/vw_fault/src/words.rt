@@ -6,9 +6,14 @@ use std::alloc::{AllocError, Global};
 use std::marker::Model;
 
 /// A word for each net or latch. Bit k of a word is that of lane k.
-#[derive(Drop)]
 pub struct Words {
     items: Vec<u64>,
+}
+
+impl Drop for Words {
+    fn drop(self) {
+        let Words { items: _ } = self;
+    }
 }
 
 impl Model for Words {

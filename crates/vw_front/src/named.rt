@@ -5,7 +5,6 @@ use vw_net::{Ordered, Sequence};
 use vw_outside::Name;
 
 /// A netlist with an order of its gates, and the names of its nets as they are printed.
-#[derive(Drop)]
 pub struct NamedNetlist {
     pub ordered: Ordered,
     /// The name of each net, by its number: of a column its own, and of a net that a cell drives its path and its name.
@@ -14,6 +13,16 @@ pub struct NamedNetlist {
     /// called as its driver calls it.
     pub outputs: Sequence<Name>,
     ghost all_named: { length nets ≡ ordered.flat.inputs + length ordered.flat.cells },
+}
+
+impl Drop for NamedNetlist {
+    fn drop(self) {
+        let NamedNetlist {
+            ordered: _,
+            nets: _,
+            outputs: _,
+        } = self;
+    }
 }
 
 impl NamedNetlist {
@@ -29,6 +38,18 @@ impl NamedNetlist {
             nets,
             outputs,
         }
+    }
+
+    /// The netlist with its order, without the names. It takes no memory.
+    pub fn into_ordered(self) -> Ordered
+        ensures { result ≡ self.ordered }
+    {
+        let NamedNetlist {
+            ordered,
+            nets: _,
+            outputs: _,
+        } = self;
+        ordered
     }
 
     /// The netlist with its order.

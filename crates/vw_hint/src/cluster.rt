@@ -27,7 +27,6 @@ pub struct Limits {
 }
 
 /// The clusters so far, each named by one of its vertices.
-#[derive(Drop)]
 struct Clusters {
     /// The cluster of each vertex.
     of: NumberList,
@@ -39,6 +38,18 @@ struct Clusters {
     seen: Vec<u32>,
     /// The last vertex that found no cluster.
     lonely: Option<u32>,
+}
+
+impl Drop for Clusters {
+    fn drop(self) {
+        let Clusters {
+            of: _,
+            weights: _,
+            scores: _,
+            seen: _,
+            lonely: _,
+        } = self;
+    }
 }
 
 impl Clusters {

@@ -8,10 +8,15 @@ use crate::numbers::NumberList;
 use std::alloc::{AllocError, Global};
 
 /// A level of clusters, and the cluster of each vertex of the level before it.
-#[derive(Drop)]
 struct Coarser {
     level: Level,
     map: NumberList,
+}
+
+impl Drop for Coarser {
+    fn drop(self) {
+        let Coarser { level: _, map: _ } = self;
+    }
 }
 
 /// How a run goes.

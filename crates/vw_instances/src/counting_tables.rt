@@ -9,7 +9,6 @@ use std::alloc::{AllocError, Global};
 use vw_models::Targets;
 
 /// For each model by its number, how much it has, with all that it places.
-#[derive(Drop)]
 pub struct CountingTables {
     /// The instances below one of the model.
     pub instances: Vec<u32>,
@@ -19,6 +18,17 @@ pub struct CountingTables {
     pub cells: Vec<u32>,
     /// The levels of instances below one of the model.
     pub levels: Vec<u32>,
+}
+
+impl Drop for CountingTables {
+    fn drop(self) {
+        let CountingTables {
+            instances: _,
+            bindings: _,
+            cells: _,
+            levels: _,
+        } = self;
+    }
 }
 
 /// The tables of a design.

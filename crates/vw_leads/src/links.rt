@@ -11,10 +11,18 @@ use vw_plan::{Board, Hop, Link};
 
 /// The links of a board, with a table in which the link from a node to another is looked up. Contracts see it as the list
 /// of the links. The row of the node that a link leaves has a place for each of 33 nodes.
-#[derive(Drop)]
 pub struct LinkTable<'a> {
     links: &'a [Link],
     numbers: Vec<Option<u32>>,
+}
+
+impl Drop for LinkTable<'_> {
+    fn drop(self) {
+        let LinkTable {
+            links: _,
+            numbers: _,
+        } = self;
+    }
 }
 
 impl<'a> Model for LinkTable<'a> {

@@ -8,9 +8,14 @@ use std::hash::{BuildHasherDefault, DefaultHasher};
 
 /// The first place of each pair of numbers in a list. The hasher is SipHash: whoever writes a plan chooses its pairs, and
 /// under the map's own hasher it is easy to find many that collide.
-#[derive(Drop)]
 pub struct PairTable {
     pub places: HashMap<(u32, u32), usize, BuildHasherDefault<DefaultHasher>>,
+}
+
+impl Drop for PairTable {
+    fn drop(self) {
+        let PairTable { places: _ } = self;
+    }
 }
 
 impl PairTable {

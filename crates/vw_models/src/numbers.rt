@@ -11,9 +11,14 @@ use vw_net::Sequence;
 
 /// The number of each model. The hasher is SipHash: whoever writes a text chooses its names, and under the map's own
 /// hasher it is easy to find many names that collide.
-#[derive(Drop)]
 pub struct Numbers<'a> {
     pub names: HashMap<&'a [u8], u32, BuildHasherDefault<DefaultHasher>>,
+}
+
+impl Drop for Numbers<'_> {
+    fn drop(self) {
+        let Numbers { names: _ } = self;
+    }
 }
 
 impl<'a> Numbers<'a> {

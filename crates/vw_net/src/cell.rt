@@ -11,10 +11,18 @@ pub enum Init {
 }
 
 /// What drives one net.
-#[derive(Drop)]
 pub enum Cell {
     /// A table over the nets `ins`, in the order of the table's inputs.
     Gate { ins: Sequence<u32>, cover: Cover },
     /// A latch that takes the value of the net `d` at the end of each clock.
     Latch { d: u32, init: Init },
+}
+
+impl Drop for Cell {
+    fn drop(self) {
+        match self {
+            Cell::Gate { ins: _, cover: _ } => {}
+            Cell::Latch { d: _, init: _ } => {}
+        }
+    }
 }

@@ -35,9 +35,14 @@ impl Mark {
 }
 
 /// One row of a table: a mark for each input.
-#[derive(Drop)]
 pub struct Row {
     pub marks: Sequence<Mark>,
+}
+
+impl Drop for Row {
+    fn drop(self) {
+        let Row { marks: _ } = self;
+    }
 }
 
 impl Row {
@@ -59,7 +64,6 @@ impl Row {
 /// The table of a gate: its value is `on` where some row matches the inputs, and the other value where none does. Contracts
 /// see its inputs, at most 128, the value where a row matches, and the rows. It takes 32 bytes a row.
 /// Source: the on-set and the off-set of a BLIF table.
-#[derive(Drop)]
 pub struct Cover {
     inputs: u32,
     on: bool,
@@ -70,6 +74,17 @@ pub struct Cover {
     ghost within: { All (λ row. row.looked < 2 ^ inputs) masks.items },
     ghost truth_table_is: { truth_table
         ≡ truth_table_of inputs on (rows_of inputs masks.items) },
+}
+
+impl Drop for Cover {
+    fn drop(self) {
+        let Cover {
+            inputs: _,
+            on: _,
+            masks: _,
+            truth_table: _,
+        } = self;
+    }
 }
 
 impl Model for Cover {

@@ -9,7 +9,6 @@ use std::alloc::{AllocError, Global};
 
 /// A netlist without names. Its nets are numbers: first the inputs, from 0 on, then the nets that the cells
 /// drive, so that cell `c` drives net `inputs + c`.
-#[derive(Drop)]
 pub struct Flat {
     /// The number of inputs, at most 4,096.
     pub inputs: u32,
@@ -22,6 +21,16 @@ pub struct Flat {
     ghost few_outputs: { length outputs ≤ MOST_OUTPUTS },
     ghost cells_fit: { All (IsWellFormed (inputs + length cells)) cells },
     ghost outputs_fit: { All (λ net. net < inputs + length cells) outputs },
+}
+
+impl Drop for Flat {
+    fn drop(self) {
+        let Flat {
+            inputs: _,
+            cells: _,
+            outputs: _,
+        } = self;
+    }
 }
 
 impl Flat {

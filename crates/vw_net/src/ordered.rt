@@ -5,12 +5,17 @@ use crate::flat::Flat;
 use crate::sequence::Sequence;
 
 /// A netlist with an order in which its gates can be worked out, one after the other.
-#[derive(Drop)]
 pub struct Ordered {
     pub flat: Flat,
     /// The cell number of each gate once, and of no latch; each gate stands after the gates whose nets it reads.
     pub order: Sequence<u32>,
     ghost is_order: { IsOrder flat.inputs flat.cells order },
+}
+
+impl Drop for Ordered {
+    fn drop(self) {
+        let Ordered { flat: _, order: _ } = self;
+    }
 }
 
 impl Ordered {

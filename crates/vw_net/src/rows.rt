@@ -7,10 +7,15 @@ use std::alloc::{AllocError, Global};
 use std::marker::Model;
 
 /// Lists of truth values, one for each clock, kept in one list. Contracts see the list of these lists.
-#[derive(Drop)]
 pub struct Rows {
     bits: Vec<bool>,
     ends: Vec<usize>,
+}
+
+impl Drop for Rows {
+    fn drop(self) {
+        let Rows { bits: _, ends: _ } = self;
+    }
 }
 
 impl Model for Rows {

@@ -13,13 +13,21 @@ use vw_net::Sequence;
 use vw_outside::Name;
 
 /// The columns of a stimulus: the inputs of the root that are no clock ports.
-#[derive(Drop)]
 pub struct Columns {
     /// For each column, its place among the inputs of the root.
     pub inputs: Sequence<u32>,
     /// For each claim of the root's model, by its number, the column of the port; nothing where it is a clock port, or no
     /// port.
     pub ports: Sequence<Option<u32>>,
+}
+
+impl Drop for Columns {
+    fn drop(self) {
+        let Columns {
+            inputs: _,
+            ports: _,
+        } = self;
+    }
 }
 
 impl Columns {

@@ -43,13 +43,6 @@ impl<'a> Node<'a> {
         &self.rows
     }
 
-    /// These rows, given up. It takes no memory.
-    pub fn into_rows(self) -> Rows
-        ensures { result ≡ self.entry.rows }
-    {
-        self.rows
-    }
-
     /// The number of each of its latches among all latches of the design. It takes no memory.
     pub fn numbers(&self) -> &[u32]
         ensures { result.now ≡ self.now.code.now.numbers.items }

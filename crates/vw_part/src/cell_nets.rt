@@ -31,7 +31,6 @@ fn nets_of_cell(alloc: Global, own: u32, cell: &Cell) -> Result<Sequence<u32>, A
 }
 
 /// The nets that each cell drives or reads, and for each net these cells.
-#[derive(Drop)]
 pub struct CellNets {
     /// How many nets there are.
     pub nets: usize,
@@ -44,6 +43,16 @@ pub struct CellNets {
     ghost within: { All (λ own. All (λ net. net < nets) own) of_cells.items },
     ghost once: { All (λ own. (net : ℕ) → times_among own net ≤ 1) of_cells.items },
     ghost turned: { AreNetCells of_cells.items nets net_cells.of_nets.items },
+}
+
+impl Drop for CellNets {
+    fn drop(self) {
+        let CellNets {
+            nets: _,
+            of_cells: _,
+            net_cells: _,
+        } = self;
+    }
 }
 
 impl CellNets {

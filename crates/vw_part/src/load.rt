@@ -9,7 +9,6 @@ use crate::tally::Tally;
 use std::alloc::{AllocError, Global};
 
 /// What a chip holds.
-#[derive(Drop)]
 pub struct Load {
     /// How many cells.
     pub cells: u32,
@@ -17,6 +16,16 @@ pub struct Load {
     pub held: Tally,
     /// For each cell of the netlist, how many of its nets some cell of the chip drives or reads.
     pub met: Tally,
+}
+
+impl Drop for Load {
+    fn drop(self) {
+        let Load {
+            cells: _,
+            held: _,
+            met: _,
+        } = self;
+    }
 }
 
 impl Load {

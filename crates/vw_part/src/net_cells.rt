@@ -8,9 +8,14 @@ use std::alloc::{AllocError, Global};
 use vw_net::Sequence;
 
 /// For each net the cells that drive or read it.
-#[derive(Drop)]
 pub struct NetCells {
     pub of_nets: Vec<Vec<u32>>,
+}
+
+impl Drop for NetCells {
+    fn drop(self) {
+        let NetCells { of_nets: _ } = self;
+    }
 }
 
 impl NetCells {

@@ -6,9 +6,14 @@ ghost use Rattle.vw_part.specs.Steps.CellNets.{times_among};
 use std::alloc::{AllocError, Global};
 
 /// A number for each net, or for each cell.
-#[derive(Drop)]
 pub struct Tally {
     pub counts: Vec<u32>,
+}
+
+impl Drop for Tally {
+    fn drop(self) {
+        let Tally { counts: _ } = self;
+    }
 }
 
 impl Tally {

@@ -8,7 +8,6 @@ use vw_net::Sequence;
 
 /// A board: its chips, and the links between its nodes. Node 0 is the host, which holds the inputs and takes the
 /// outputs; nodes 1 to `chips` are the chips.
-#[derive(Drop)]
 pub struct Board {
     /// The number of chips, 1 to 32.
     pub chips: u32,
@@ -24,6 +23,17 @@ pub struct Board {
     ghost few_cells: { cells ≤ MOST_CELLS },
     ghost quick: { settle ≤ MOST_SETTLE },
     ghost linked: { AreLinks chips links },
+}
+
+impl Drop for Board {
+    fn drop(self) {
+        let Board {
+            chips: _,
+            cells: _,
+            settle: _,
+            links: _,
+        } = self;
+    }
 }
 
 impl Board {

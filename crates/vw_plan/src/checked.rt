@@ -6,12 +6,21 @@ use crate::plan::Plan;
 use vw_net::Ordered;
 
 /// A design, a board, and a plan for them that is sound.
-#[derive(Drop)]
 pub struct Checked {
     pub ordered: Ordered,
     pub board: Board,
     pub plan: Plan,
     ghost sound: { IsSound (record { ordered = ordered; board = board; plan = plan }) },
+}
+
+impl Drop for Checked {
+    fn drop(self) {
+        let Checked {
+            ordered: _,
+            board: _,
+            plan: _,
+        } = self;
+    }
 }
 
 impl Checked {

@@ -35,13 +35,22 @@ impl Need {
 }
 
 /// The way that a net takes to a node where it is needed.
-#[derive(Drop)]
 pub struct Route {
     pub net: u32,
     /// The node where it is needed.
     pub to: u32,
     /// The nodes that it goes through, from the net's own node to the last, both included.
     pub nodes: Sequence<u32>,
+}
+
+impl Drop for Route {
+    fn drop(self) {
+        let Route {
+            net: _,
+            to: _,
+            nodes: _,
+        } = self;
+    }
 }
 
 impl Route {

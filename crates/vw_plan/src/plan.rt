@@ -7,7 +7,6 @@ use vw_net::Sequence;
 
 /// A plan of a design on a board: where each cell is, and when each wire uses which pin. The microcycles of one clock
 /// of the design are numbered from 0 up to the period.
-#[derive(Drop)]
 pub struct Plan {
     /// The chip of each cell, by the number of the cell. Fewer than 2 ^ 32.
     pub chip_of: Sequence<u32>,
@@ -20,6 +19,16 @@ pub struct Plan {
     ghost few_hops: { hop_count wires < 2 ^ 30 },
     ghost early: { All (λ wire. All (λ hop. hop.at ≤ 2 ^ 62) wire.hops) wires },
     ghost short: { period ≤ 2 ^ 62 },
+}
+
+impl Drop for Plan {
+    fn drop(self) {
+        let Plan {
+            chip_of: _,
+            wires: _,
+            period: _,
+        } = self;
+    }
 }
 
 impl Plan {

@@ -56,13 +56,22 @@ impl Hop {
 }
 
 /// A virtual wire: it brings the value of a net to a node, hop by hop.
-#[derive(Drop)]
 pub struct Wire {
     pub net: u32,
     /// The node that it brings the net to.
     pub to: u32,
     /// The hops, in the order in which they are made.
     pub hops: Sequence<Hop>,
+}
+
+impl Drop for Wire {
+    fn drop(self) {
+        let Wire {
+            net: _,
+            to: _,
+            hops: _,
+        } = self;
+    }
 }
 
 impl Wire {

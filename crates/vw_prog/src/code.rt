@@ -3,7 +3,6 @@ use crate::shift::ShiftLoop;
 use vw_net::Sequence;
 
 /// A gate of more than six inputs.
-#[derive(Drop)]
 pub struct WideGate {
     /// Its cell number.
     pub number: u32,
@@ -11,6 +10,16 @@ pub struct WideGate {
     pub reads: Sequence<u32>,
     /// The slot of its own net.
     pub target: u32,
+}
+
+impl Drop for WideGate {
+    fn drop(self) {
+        let WideGate {
+            number: _,
+            reads: _,
+            target: _,
+        } = self;
+    }
 }
 
 /// What a node does next.
@@ -39,7 +48,6 @@ pub struct Microcycle {
 }
 
 /// What a node does in one clock, in the form in which it runs. The bit of each net that the node knows has a slot of its own.
-#[derive(Drop)]
 pub struct Code {
     /// For each action what it does from there on: a gate of at most six inputs goes together with those behind it.
     pub ops: Vec<Op>,
@@ -61,4 +69,21 @@ pub struct Code {
     pub inputs: Vec<u32>,
     /// For each of these its number among all latches.
     pub numbers: Vec<u32>,
+}
+
+impl Drop for Code {
+    fn drop(self) {
+        let Code {
+            ops: _,
+            loops: _,
+            sequencer: _,
+            gates: _,
+            wide: _,
+            nets: _,
+            records: _,
+            latches: _,
+            inputs: _,
+            numbers: _,
+        } = self;
+    }
 }

@@ -28,11 +28,20 @@ pub struct TableGate<const N: usize> {
 }
 
 /// The gates of a node that have at most six inputs, in order, all with room for two reads, or for four, or for six.
-#[derive(Drop)]
 pub enum Gates {
     Two(Vec<TableGate<2>>),
     Four(Vec<TableGate<4>>),
     Six(Vec<TableGate<6>>),
+}
+
+impl Drop for Gates {
+    fn drop(self) {
+        match self {
+            Gates::Two(_) => {}
+            Gates::Four(_) => {}
+            Gates::Six(_) => {}
+        }
+    }
 }
 
 /// A gate with its first reads.

@@ -6,7 +6,6 @@ use vw_net::{Bits, Rows};
 use vw_plan::Checked;
 
 /// Some clocks of a design on a board, by a sound plan: the clock of its first row, the latches before it, and the rows.
-#[derive(Drop)]
 pub struct Job {
     pub checked: Checked,
     /// The number of its first clock.
@@ -18,6 +17,17 @@ pub struct Job {
     ghost all_latches: { length start ≡ latch_count checked.ordered.flat.cells },
     ghost even: { All (λ row. length row ≡ checked.ordered.flat.inputs) rows },
     ghost short: { first + length rows < 2 ^ 32 },
+}
+
+impl Drop for Job {
+    fn drop(self) {
+        let Job {
+            checked: _,
+            first: _,
+            start: _,
+            rows: _,
+        } = self;
+    }
 }
 
 impl Job {
@@ -62,9 +72,9 @@ impl Job {
     {
         let Job {
             checked,
+            first: _,
             start,
             rows,
-            ..
         } = self;
         (checked, start, rows)
     }

@@ -12,11 +12,19 @@ use std::marker::Model;
 use vw_plan::Checked;
 
 /// The code of each node for one clock, by the number of the node. Contracts also see the actions that it stands for.
-#[derive(Drop)]
 pub struct Programs {
     /// The number of inputs of the design, to which the cell numbers of gates are relative.
     inputs: u32,
     codes: Vec<Code>,
+}
+
+impl Drop for Programs {
+    fn drop(self) {
+        let Programs {
+            inputs: _,
+            codes: _,
+        } = self;
+    }
 }
 
 impl Model for Programs {

@@ -17,11 +17,20 @@ pub struct LoopNet {
 
 /// The nets that a node sends over one pin of a link in one clock, in order. A send takes the net at which the loop stands, and
 /// turns it on to the next one; behind the last comes the first. Where it stands is kept by whoever turns it.
-#[derive(Drop)]
 pub struct ShiftLoop {
     link: u32,
     pin: u32,
     nets: Vec<LoopNet>,
+}
+
+impl Drop for ShiftLoop {
+    fn drop(self) {
+        let ShiftLoop {
+            link: _,
+            pin: _,
+            nets: _,
+        } = self;
+    }
 }
 
 impl Model for ShiftLoop {

@@ -9,7 +9,6 @@ use bstr::ByteSlice;
 use std::alloc::{AllocError, Global};
 
 /// What was read of a line.
-#[derive(Drop)]
 pub struct LineSoFar {
     pub said: Said,
     /// Whether a comment has begun.
@@ -18,6 +17,17 @@ pub struct LineSoFar {
     pub bits: Vec<bool>,
     /// How many bits are kept.
     pub kept: u32,
+}
+
+impl Drop for LineSoFar {
+    fn drop(self) {
+        let LineSoFar {
+            said: _,
+            commented: _,
+            bits: _,
+            kept: _,
+        } = self;
+    }
 }
 
 /// How many bits a word of bits has that may go on, or begin.

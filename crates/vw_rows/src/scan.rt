@@ -21,12 +21,22 @@ pub enum Adds {
 }
 
 /// The line that is being read, how many bits a row has, the number of the line, and how many rows there are before it.
-#[derive(Drop)]
 pub struct Scan {
     pub line: LineSoFar,
     pub width: u32,
     pub number: u64,
     pub clocks: u64,
+}
+
+impl Drop for Scan {
+    fn drop(self) {
+        let Scan {
+            line: _,
+            width: _,
+            number: _,
+            clocks: _,
+        } = self;
+    }
 }
 
 /// How many rows a line adds.

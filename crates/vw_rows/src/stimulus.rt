@@ -12,7 +12,6 @@ use vw_net::{Bits, Rows};
 use vw_outside::{Name, Shelf};
 
 /// A stimulus that was checked, and how far it was given. It is made by `check` alone. The text itself isn't kept.
-#[derive(Drop)]
 pub struct Stimulus {
     /// The name of the text.
     pub name: Name,
@@ -36,6 +35,21 @@ pub struct Stimulus {
     ghost inside: { at ≤ MOST_STIMULUS_BYTES },
     ghost numbered: { line ≤ at + 1 },
     ghost few_owed: { done + owed ≤ MOST_CLOCKS },
+}
+
+impl Drop for Stimulus {
+    fn drop(self) {
+        let Stimulus {
+            name: _,
+            width: _,
+            clocks: _,
+            done: _,
+            at: _,
+            line: _,
+            before: _,
+            owed: _,
+        } = self;
+    }
 }
 
 impl Stimulus {

@@ -73,11 +73,20 @@ impl<'a> End<'a> {
 }
 
 /// How a call ended, and what it wrote.
-#[derive(Drop)]
 pub struct Ran {
     pub status: u8,
     pub out: MemSink,
     pub err: MemSink,
+}
+
+impl Drop for Ran {
+    fn drop(self) {
+        let Ran {
+            status: _,
+            out: _,
+            err: _,
+        } = self;
+    }
 }
 
 /// The words of a call, as the program is given them.

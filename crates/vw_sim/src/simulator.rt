@@ -16,7 +16,6 @@ use vw_net::{Bits, Cell, Flat, Ordered, gates_settle};
 
 /// A netlist with an order, made ready for many clocks: its gates in order, each with the nets that it reads and its truth
 /// table; the places of those with more than six inputs; and its latches. Contracts see the netlist with its order.
-#[derive(Drop)]
 pub struct Simulator<'a> {
     ordered: &'a Ordered,
     tables: Tables,
@@ -25,6 +24,18 @@ pub struct Simulator<'a> {
     /// The net of each latch, and the net that it takes its next value from.
     latches: Vec<u32>,
     taken: Vec<u32>,
+}
+
+impl Drop for Simulator<'_> {
+    fn drop(self) {
+        let Simulator {
+            ordered: _,
+            tables: _,
+            wide: _,
+            latches: _,
+            taken: _,
+        } = self;
+    }
 }
 
 impl<'a> Model for Simulator<'a> {

@@ -14,11 +14,20 @@ use std::alloc::{AllocError, Global};
 use vw_net::{Bits, Cell, Ordered, TRUTH_TABLE_INPUTS};
 
 /// The gates of a netlist in order, all with room for two nets, or for four, or for six.
-#[derive(Drop)]
 pub enum Tables {
     Two(Vec<TableStep<2>>),
     Four(Vec<TableStep<4>>),
     Six(Vec<TableStep<6>>),
+}
+
+impl Drop for Tables {
+    fn drop(self) {
+        match self {
+            Tables::Two(_) => {}
+            Tables::Four(_) => {}
+            Tables::Six(_) => {}
+        }
+    }
 }
 
 impl Tables {

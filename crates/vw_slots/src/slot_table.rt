@@ -12,7 +12,6 @@ use vw_plan::Board;
 
 /// The slots of a board's links that are taken, with spare room for more. Contracts see the widths of the links, the
 /// taken slots in the order in which they were taken, and how many more there is room for.
-#[derive(Drop)]
 pub struct SlotTable {
     /// The number of pins of each link.
     widths: Sequence<u32>,
@@ -22,6 +21,17 @@ pub struct SlotTable {
     pin_uses: PinUses,
     /// How many more slots there is room for.
     spare: u64,
+}
+
+impl Drop for SlotTable {
+    fn drop(self) {
+        let SlotTable {
+            widths: _,
+            taken: _,
+            pin_uses: _,
+            spare: _,
+        } = self;
+    }
 }
 
 impl Model for SlotTable {

@@ -4,12 +4,20 @@ use vw_net::Sequence;
 use vw_outside::Name;
 
 /// A logical line with words.
-#[derive(Drop)]
 pub struct Line {
     /// The number of its first physical line, from 1.
     pub number: u64,
     /// Its words, at least one, in order.
     pub words: Sequence<Name>,
+}
+
+impl Drop for Line {
+    fn drop(self) {
+        let Line {
+            number: _,
+            words: _,
+        } = self;
+    }
 }
 
 impl Line {

@@ -61,13 +61,7 @@ fn wave_signals<S: Shelf, O: Sink>(
         outside.old outside.new result }
 {
     let names = named.signals(alloc, probes.nets)?;
-    let NamedNetlist {
-        ordered,
-        nets,
-        outputs,
-    } = named;
-    drop(nets);
-    drop(outputs);
+    let ordered = named.into_ordered();
     wave_netlist(alloc, ordered, &names, stimulus, unknown, outside)
 }
 

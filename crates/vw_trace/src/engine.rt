@@ -10,10 +10,18 @@ use std::alloc::{AllocError, Global};
 use vw_net::{Bits, Flat, Rows};
 
 /// What a netlist did in a number of clocks: the outputs of each, and the latch values before its step.
-#[derive(Drop)]
 pub struct Batch {
     pub outputs: Rows,
     pub states: Rows,
+}
+
+impl Drop for Batch {
+    fn drop(self) {
+        let Batch {
+            outputs: _,
+            states: _,
+        } = self;
+    }
 }
 
 /// What works out the clocks of a netlist, batch by batch: a simulator of it, or a board that it was planned on.

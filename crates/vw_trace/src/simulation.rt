@@ -8,11 +8,19 @@ use vw_net::{Bits, Flat, Ordered, Rows};
 use vw_sim::Simulator;
 
 /// A simulator, with a value for each net of its netlist.
-#[derive(Drop)]
 pub struct Simulation<'a> {
     pub simulator: Simulator<'a>,
     pub values: Bits,
     ghost nets: { length values ≡ simulator.flat.inputs + length simulator.flat.cells },
+}
+
+impl Drop for Simulation<'_> {
+    fn drop(self) {
+        let Simulation {
+            simulator: _,
+            values: _,
+        } = self;
+    }
 }
 
 /// A value for each net of a netlist.

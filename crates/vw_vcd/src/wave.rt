@@ -9,10 +9,15 @@ use std::marker::Model;
 use vw_net::Bits;
 
 /// A wave under way: how many clocks it has seen, and the values of the last one, one bit a signal. Contracts see it as that.
-#[derive(Drop)]
 pub struct Wave {
     clocks: u64,
     last: Bits,
+}
+
+impl Drop for Wave {
+    fn drop(self) {
+        let Wave { clocks: _, last: _ } = self;
+    }
 }
 
 impl Model for Wave {

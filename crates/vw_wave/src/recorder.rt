@@ -15,7 +15,6 @@ use vw_trace::{Batch, Recorder};
 use vw_vcd::Wave;
 
 /// What writes down the clocks of a netlist as a wave, all but its head.
-#[derive(Drop)]
 pub struct WaveRecorder {
     /// The wave so far.
     pub wave: Wave,
@@ -28,6 +27,17 @@ pub struct WaveRecorder {
     ghost few: { outputs + latches < 2 ^ 32 },
     ghost signals: { length wave.last ≡ outputs + latches },
     ghost wide: { length row ≡ outputs + latches },
+}
+
+impl Drop for WaveRecorder {
+    fn drop(self) {
+        let WaveRecorder {
+            wave: _,
+            outputs: _,
+            latches: _,
+            row: _,
+        } = self;
+    }
 }
 
 impl WaveRecorder {

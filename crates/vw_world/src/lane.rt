@@ -7,7 +7,6 @@ use std::marker::Model;
 use vw_prog::Word;
 
 /// A link of a world: the words on it, how many were sent over it and taken from it, and how many puts and takes were refused.
-#[derive(Drop)]
 pub struct Lane {
     /// The words on the link, in the order of sending. Their room is taken when the lane is made.
     words: VecDeque<Word>,
@@ -17,6 +16,19 @@ pub struct Lane {
     taken: u64,
     full: u64,
     empty: u64,
+}
+
+impl Drop for Lane {
+    fn drop(self) {
+        let Lane {
+            words: _,
+            room: _,
+            sent: _,
+            taken: _,
+            full: _,
+            empty: _,
+        } = self;
+    }
 }
 
 impl Model for Lane {

@@ -7,11 +7,20 @@ use std::marker::Model;
 use vw_prog::{Ends, Job, Word};
 
 /// The links of a world. At each time they are the ends of the links of one node.
-#[derive(Drop)]
 pub struct Lanes<'a> {
     job: &'a Job,
     node: u32,
     lanes: Vec<Lane>,
+}
+
+impl Drop for Lanes<'_> {
+    fn drop(self) {
+        let Lanes {
+            job: _,
+            node: _,
+            lanes: _,
+        } = self;
+    }
 }
 
 impl<'a> Model for Lanes<'a> {

@@ -17,13 +17,23 @@ use vw_prog::{Answer, Job, Programs};
 
 /// The nodes of a board in a job, and the words on its links. It borrows the job and the programs. Contracts see the job, the
 /// states of the nodes, and the words on the links.
-#[derive(Drop)]
 pub struct World<'a> {
     job: &'a Job,
     nodes: Vec<Node<'a>>,
     lanes: Lanes<'a>,
     /// Room for the latch values of its answer.
     room: Room,
+}
+
+impl Drop for World<'_> {
+    fn drop(self) {
+        let World {
+            job: _,
+            nodes: _,
+            lanes: _,
+            room: _,
+        } = self;
+    }
 }
 
 impl<'a> Model for World<'a> {
@@ -95,8 +105,8 @@ impl<'a> World<'a> {
         let World {
             job,
             nodes,
+            lanes: _,
             room,
-            ..
         } = self;
         answer_of(job, nodes, room)
     }

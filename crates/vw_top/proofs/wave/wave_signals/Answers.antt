@@ -3,6 +3,7 @@ use Rattle.std.proofs.lemmas.Result.{err_from_is_err_and}
 use Rattle.vw_course.specs.Goes.{Goes, Unmoved}
 use Rattle.vw_course.proofs.GoesLaws.{unmoved_still}
 use Rattle.vw_design.specs.Paths.{Word}
+use Rattle.vw_net.specs.declared.ordered.Ordered.{Ordered}
 use Rattle.vw_front.specs.Names.{signal_names}
 use Rattle.vw_top.specs.Messages.{vocabulary}
 use Rattle.vw_top.specs.Commands.{netlist_course, netlist_wave, no_links, wave_of, no_check}
@@ -12,7 +13,8 @@ use Rattle.vw_top.proofs.wave.wave_signals.Goals as goal
 
 -- there is a name for each signal
 pub wave_netlist-requires : goal.wave_netlist-requires
-wave_netlist-requires g c = ap length c.deref.ensures.value ∙ c.in_ok-names.ensures.count c.requires.0 c.requires.1
+wave_netlist-requires g c =
+    rw c.into_ordered-ordered.ensures (ap length c.deref.ensures.value ∙ c.in_ok-names.ensures.count c.requires.0 c.requires.1)
 
 -- without memory for the names nothing more is read
 pub returns-in_err-names : goal.returns-in_err-names
@@ -29,4 +31,6 @@ returns g c = λ text is.
     goes_of_design g.S.Shelf.seen g.O.Sink.seen c.args.stimulus.now (wave_of probes c.args.unknown) (netlist_wave (signal_names probes is.watched.design) c.args.unknown) no_links is.watched ordered is.flat
     (wave_same probes c.args.unknown is.watched ordered is.flat)
     (subst (λ (names : List Word). Goes g.S.Shelf.seen g.O.Sink.seen vocabulary (netlist_course c.args.stimulus.now (netlist_wave names c.args.unknown) no_links ordered) c.args.outside.now c.wave_netlist.new.outside c.wave_netlist.result)
-    (c.deref.ensures.value ∙ c.in_ok-names.ensures.names text is) c.wave_netlist.ensures)
+    (c.deref.ensures.value ∙ c.in_ok-names.ensures.names text is)
+    (subst (λ (netlist : Ordered). Goes g.S.Shelf.seen g.O.Sink.seen vocabulary (netlist_course c.args.stimulus.now (netlist_wave c.deref.result.now c.args.unknown) no_links netlist) c.args.outside.now c.wave_netlist.new.outside c.wave_netlist.result)
+    c.into_ordered-ordered.ensures c.wave_netlist.ensures))
