@@ -65,6 +65,10 @@ its_sim = words.sim (codes "design") (codes "stimulus") false []
 spells_sim : spelled_by (codes "sim" ∷ codes "design" ∷ codes "stimulus" ∷ []) ≡ its_sim
 spells_sim = refl
 
+-- three words, each by its letters
+three_words : {one two three : List ℕ} {first second third : List ℕ} → one ≡ first → two ≡ second → three ≡ third → (one ∷ two ∷ three ∷ []) ≡ (first ∷ second ∷ third ∷ [])
+three_words p q r = λ i. p i ∷ q i ∷ r i ∷ []
+
 module _ (design stimulus out err : List ℕ) (call : Call) (hold : HoldTexts (designs [] (codes "design")) (trace_of false) (codes "stimulus") call design stimulus)
     (none : call.before.out.told ≡ Some []) (some : call.after.out.told ≡ Some out) (unsaid : call.err_before ≡ seen_bytes [] 0) (said : call.err_after ≡ seen_bytes err 0)
     (table : SimStatuses [] (trace_of false) (codes "design") (codes "stimulus") call) where
@@ -128,7 +132,7 @@ returns c =
       err_after = seen_sink c.alone.new.err;
       status = c.in-Some.status;
     } in
-    let words_are : c.deref.result.now ≡ codes "sim" ∷ codes "design" ∷ codes "stimulus" ∷ [] = cc (c.in_ok-owned_name-3.ensures, c.in_ok-owned_name-4.ensures, c.in_ok-owned_name-5.ensures, c.in_ok-words.ensures.items) in
+    let words_are : c.deref.result.now ≡ codes "sim" ∷ codes "design" ∷ codes "stimulus" ∷ [] = c.deref.ensures.value ∙ c.in_ok-words.ensures.items ∙ three_words c.in_ok-owned_name-3.ensures c.in_ok-owned_name-4.ensures c.in_ok-owned_name-5.ensures in
     let its_call : IsCallOf (course_of its_sim) call = subst (λ (spelled : Spelled). IsCallOf (course_of spelled) call) (ap spelled_by words_are ∙ spells_sim) (c.in-Some.ensures.1 no_links) in
     let files_are : c.new-shelf.result.files.items ≡ c.make.result ∷ c.make-2.result ∷ [] = c.new-shelf.ensures.files ∙ c.in_ok-files.ensures.items in
     let both = hold_both c.new-shelf.result.files.items c.make.result c.make-2.result c.args.design.items c.args.stimulus.items files_are (c.make.ensures.name ∙ c.in_ok-owned_name.ensures) (c.make-2.ensures.name ∙ c.in_ok-owned_name-2.ensures) c.make.ensures.bytes c.make-2.ensures.bytes in

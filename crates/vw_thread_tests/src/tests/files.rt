@@ -12,16 +12,20 @@ const SMALL: &str = "board 1\nchips 1\ncells 1\nsettle 0\npins 4\nlink 0 1 1\nli
 const EARLY: &str =
     "plan 1 2 4 2\nchips 1 2\nwire 0 1 1\nhop 0 1 0 0\nwire 1 2 1\nhop 1 2 0 0\nwire 2 0 1\nhop 2 0 0 0\nwire 2 1 1\nhop 2 1 0 0\nend\n";
 
-/// The exit status of these words.
-fn status(rt: &HostRuntime, words: &[&str]) -> Result<u8, AllocError> {
+/// The exit status of these words, with workers on these threads.
+fn status<T: Threads + Wait + Copy + Send + Sync>(
+    rt: &HostRuntime,
+    threads: &T,
+    words: &[&str],
+) -> Result<u8, AllocError> {
     let alloc = rt.alloc();
     let names = names_of(alloc, words)?;
     let mut shelf = FileShelf::new(alloc, rt);
     let mut out = OutSink::new(rt);
     let mut err = ErrSink::new(rt);
-    let mut links = Links::new(*rt, false);
+    let mut links = Links::new(*threads, false);
     Ok(virtual_wires(
-        rt,
+        threads,
         alloc,
         &names,
         &mut shelf,
@@ -57,7 +61,12 @@ fn remove_files(rt: &HostRuntime, count: usize) -> Result<(), Fail> {
 }
 
 /// The exit status of a command over so many of these files.
-fn status_of(rt: &HostRuntime, command: &str, count: usize) -> Result<u8, AllocError> {
+fn status_of<T: Threads + Wait + Copy + Send + Sync>(
+    rt: &HostRuntime,
+    threads: &T,
+    command: &str,
+    count: usize,
+) -> Result<u8, AllocError> {
     let first = path(rt, 0)?;
     let second = path(rt, 1)?;
     let third = path(rt, 2)?;
@@ -69,14 +78,22 @@ fn status_of(rt: &HostRuntime, command: &str, count: usize) -> Result<u8, AllocE
         third.as_str(),
         fourth.as_str(),
     ];
-    status(rt, words.get(..count.saturating_add(1)).unwrap_or(&words))
+    status(
+        rt,
+        threads,
+        words.get(..count.saturating_add(1)).unwrap_or(&words),
+    )
 }
 
 /// Fails unless a command over files with each of these lists of texts has its status.
-fn files_have_statuses(rt: &HostRuntime, table: &[(&str, &[&str], u8)]) -> Result<(), Fail> {
+fn files_have_statuses<T: Threads + Wait + Copy + Send + Sync>(
+    rt: &HostRuntime,
+    threads: &T,
+    table: &[(&str, &[&str], u8)],
+) -> Result<(), Fail> {
     for (command, texts, wanted) in table {
         write_files(rt, texts)?;
-        let found = status_of(rt, command, texts.len())?;
+        let found = status_of(rt, threads, command, texts.len())?;
         remove_files(rt, texts.len())?;
         is_status(found, *wanted, command)?;
     }
@@ -84,9 +101,13 @@ fn files_have_statuses(rt: &HostRuntime, table: &[(&str, &[&str], u8)]) -> Resul
 }
 
 /// Fails unless each of these lists of words has its status.
-fn words_have_statuses(rt: &HostRuntime, table: &[(&[&str], u8)]) -> Result<(), Fail> {
+fn words_have_statuses<T: Threads + Wait + Copy + Send + Sync>(
+    rt: &HostRuntime,
+    threads: &T,
+    table: &[(&[&str], u8)],
+) -> Result<(), Fail> {
     for (words, wanted) in table {
-        let found = status(rt, words)?;
+        let found = status(rt, threads, words)?;
         is_status(found, *wanted, words.first().copied().unwrap_or("no words"))?;
     }
     Ok(())
@@ -99,7 +120,7 @@ fn designs_and_stimuli_in_files_have_their_statuses(rt: HostRuntime) -> Result<(
         ("sim", &["no design\n", "1\n"], 1),
         ("sim", &[TOGGLE, "10\n"], 5),
     ];
-    files_have_statuses(&rt, TABLE)
+    files_have_statuses(&rt, &rt, TABLE)
 }
 
 #[test]
@@ -111,20 +132,20 @@ fn boards_and_plans_in_files_have_their_statuses(rt: HostRuntime) -> Result<(), 
         ("plan", &[TOGGLE, TRIANGLE], 0),
         ("plan", &[TOGGLE, SMALL], 6),
     ];
-    files_have_statuses(&rt, TABLE)
+    files_have_statuses(&rt, &rt, TABLE)
 }
 
 /// By four workers, since no word says how many.
 #[test]
 fn a_run_over_files_has_its_status(rt: HostRuntime) -> Result<(), Fail> {
     const TABLE: &[(&str, &[&str], u8)] = &[("run", &[TOGGLE, TRIANGLE, "1\n1\n0\n"], 0)];
-    files_have_statuses(&rt, TABLE)
+    files_have_statuses(&rt, &rt, TABLE)
 }
 
 #[test]
 fn wrong_words_and_a_folder_have_their_statuses(rt: HostRuntime) -> Result<(), Fail> {
     const TABLE: &[(&[&str], u8)] = &[(&["fly"], 2), (&["sim", "/tmp", "/dev/null"], 7)];
-    words_have_statuses(&rt, TABLE)
+    words_have_statuses(&rt, &rt, TABLE)
 }
 
 /// A missing file, an empty name, and a folder in place of each text.
@@ -135,7 +156,7 @@ fn what_is_no_file_is_a_read_fault(rt: HostRuntime) -> Result<(), Fail> {
         (&["check", "/", "/", "/"], 7),
         (&["grade", "/tmp", "/tmp"], 7),
     ];
-    words_have_statuses(&rt, TABLE)
+    words_have_statuses(&rt, &rt, TABLE)
 }
 
 /// The commands on boards and states that came last.
@@ -149,5 +170,5 @@ fn states_and_emitted_boards_in_files_have_their_statuses(rt: HostRuntime) -> Re
         ("wave", &[TOGGLE, "1\n"], 0),
         ("grade", &[TOGGLE, "1\n"], 0),
     ];
-    files_have_statuses(&rt, TABLE)
+    files_have_statuses(&rt, &rt, TABLE)
 }
