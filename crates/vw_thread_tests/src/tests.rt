@@ -10,8 +10,8 @@ use vw_sample_calls::{
     Call, End, Fault, MOST, Ran, are_found, carried_out_on, has_ended, is_status, words_carried,
 };
 use vw_samples::{
-    FIVE_GATES, FLIP_TEXTS, FLIP_TRACE, FOUR_CELLS, FOUR_GATES, TOGGLE, TOGGLE_PLAN, TOGGLE_TEXTS,
-    TOGGLE_TRACE, TRIANGLE,
+    AND, FAR_CHAIN, FAR_PLAN, FIVE_GATES, FLIP, FLIP_TEXTS, FLIP_TRACE, FOUR_CELLS, FOUR_GATES,
+    TOGGLE, TOGGLE_PLAN, TOGGLE_ROWS, TOGGLE_TEXTS, TOGGLE_TRACE, TRIANGLE,
 };
 
 mod files;

@@ -64,15 +64,16 @@ impl BurstGate for Seen {
     }
 }
 
-/// Which groups come to the gate in a call with these words, a bit for each.
+/// Which groups come to the gate in a call with these words over these texts, a bit for each.
 fn groups_of<R: Threads + Wait + Copy + Send + Sync>(
     rt: &R,
     alloc: Global,
     words: &[&str],
-) -> Result<u64, AllocError> {
+    texts: &[(&str, &str)],
+) -> Result<u64, Fail> {
     let call = Call {
         words,
-        texts: TOGGLE_TEXTS,
+        texts,
         most: MOST,
         fault: Fault::None,
     };
@@ -80,25 +81,92 @@ fn groups_of<R: Threads + Wait + Copy + Send + Sync>(
         come: AtomicU64::new(0),
     };
     let mut links = Links::new(*rt, false);
-    carried_out_on(rt, alloc, &call, &gate, &mut links)?;
+    let ended = carried_out_on(rt, alloc, &call, &gate, &mut links)?;
+    is_status(ended.status, 0, words.last().copied().unwrap_or("no words"))?;
     Ok(gate.come.load(Ordering::SeqCst))
 }
+
+/// Asserts which groups come to the gate in calls over these texts.
+fn have_groups<R: Threads + Wait + Copy + Send + Sync + Abort>(
+    rt: &R,
+    alloc: Global,
+    texts: &[(&str, &str)],
+    table: &[(&[&str], u64)],
+) -> Result<(), Fail> {
+    for (words, wanted) in table {
+        let found = groups_of(rt, alloc, words, texts)?;
+        assert_eq!(rt; found, *wanted, "{words:?}");
+    }
+    Ok(())
+}
+
+/// The toggle on three nodes, with its plan, a state of it, and rows.
+const THREE_NODES: &[(&str, &str)] = &[
+    ("d", TOGGLE),
+    ("b", TRIANGLE),
+    ("p", TOGGLE_PLAN),
+    ("t", "state 1 3 1 0\n"),
+    ("s", TOGGLE_ROWS),
+];
 
 /// Of three nodes each is a group of its own, however many workers there are above three; one worker comes to no gate.
 #[test]
 fn there_are_as_many_groups_as_workers_or_nodes(rt: HostRuntime) -> Result<(), Fail> {
     const TABLE: &[(&[&str], u64)] = &[
         (&["run", "d", "b", "s", "plan=p", "workers=1"], 0),
-        (&["run", "d", "b", "s", "plan=p", "workers=2"], 3),
-        (&["run", "d", "b", "s", "plan=p", "workers=3"], 7),
-        (&["run", "d", "b", "s", "plan=p", "workers=64"], 7),
-        (&["run", "d", "b", "s", "workers=3"], 7),
-        (&["demo", "100", "workers=1"], 0),
-        (&["demo", "100", "workers=3"], 7),
+        (&["run", "d", "b", "s", "plan=p", "workers=2"], 0b11),
+        (&["run", "d", "b", "s", "plan=p", "workers=3"], 0b111),
+        (&["run", "d", "b", "s", "plan=p", "workers=64"], 0b111),
+        (&["run", "d", "b", "s", "workers=3"], 0b111),
+        (&["save", "d", "b", "s", "workers=1"], 0),
+        (&["save", "d", "b", "s", "workers=2"], 0b11),
+        (&["save", "d", "b", "s", "workers=3"], 0b111),
+        (&["resume", "d", "b", "t", "s", "workers=1"], 0),
+        (&["resume", "d", "b", "t", "s", "workers=2"], 0b11),
+        (&["resume", "d", "b", "t", "s", "workers=3"], 0b111),
     ];
-    for (words, wanted) in TABLE {
-        let found = groups_of(&rt, rt.alloc(), words)?;
-        assert_eq!(&rt; found, *wanted);
-    }
-    Ok(())
+    have_groups(&rt, rt.alloc(), THREE_NODES, TABLE)
+}
+
+/// A host and sixteen chips, each joined to the host both ways, and the one gate of the design on the first of them.
+const SEVENTEEN_NODES: &[(&str, &str)] = &[
+    ("d", AND),
+    (
+        "b",
+        "board 1\nchips 16\ncells 1\nsettle 0\npins 64\n\
+         link 0 1 1\nlink 1 0 1\nlink 0 2 1\nlink 2 0 1\nlink 0 3 1\nlink 3 0 1\nlink 0 4 1\nlink 4 0 1\n\
+         link 0 5 1\nlink 5 0 1\nlink 0 6 1\nlink 6 0 1\nlink 0 7 1\nlink 7 0 1\nlink 0 8 1\nlink 8 0 1\n\
+         link 0 9 1\nlink 9 0 1\nlink 0 10 1\nlink 10 0 1\nlink 0 11 1\nlink 11 0 1\nlink 0 12 1\nlink 12 0 1\n\
+         link 0 13 1\nlink 13 0 1\nlink 0 14 1\nlink 14 0 1\nlink 0 15 1\nlink 15 0 1\nlink 0 16 1\nlink 16 0 1\n",
+    ),
+    ("t", "state 1 0 0 -\n"),
+    ("s", "11\n10\n"),
+];
+
+/// Where no word says how many workers there are, there are four; and seventeen nodes may be in seventeen groups.
+#[test]
+fn there_may_be_many_groups_and_four_where_no_word_says(rt: HostRuntime) -> Result<(), Fail> {
+    const TABLE: &[(&[&str], u64)] = &[
+        (&["run", "d", "b", "s"], 0b1111),
+        (&["run", "d", "b", "s", "workers=17"], 0x1_ffff),
+        (&["run", "d", "b", "s", "workers=64"], 0x1_ffff),
+        (&["save", "d", "b", "s"], 0b1111),
+        (&["save", "d", "b", "s", "workers=17"], 0x1_ffff),
+        (&["resume", "d", "b", "t", "s"], 0b1111),
+        (&["resume", "d", "b", "t", "s", "workers=17"], 0x1_ffff),
+    ];
+    have_groups(&rt, rt.alloc(), SEVENTEEN_NODES, TABLE)
+}
+
+/// The board of a demo has sixteen chips.
+#[test]
+fn a_demo_has_as_many_groups(rt: HostRuntime) -> Result<(), Fail> {
+    const TABLE: &[(&[&str], u64)] = &[
+        (&["demo", "100", "workers=1"], 0),
+        (&["demo", "100", "workers=3"], 0b111),
+        (&["demo", "100"], 0b1111),
+        (&["demo", "100", "workers=17"], 0x1_ffff),
+        (&["demo", "100", "workers=64"], 0x1_ffff),
+    ];
+    have_groups(&rt, rt.alloc(), &[], TABLE)
 }

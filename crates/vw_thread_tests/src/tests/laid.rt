@@ -41,22 +41,29 @@ impl<R: Wait + Copy + Send> Fabric for Counted<R> {
     }
 }
 
-/// Runs the toggle over 257 clocks, which are a batch and a clock, on links of which one isn't laid. It answers the status, and
-/// how often links were laid and lifted.
-fn laid_and_lifted<R: Threads + Wait + Copy + Send + Sync>(
-    rt: &R,
-    alloc: Global,
-    refused: u32,
-) -> Result<(u8, u32, u32), AllocError> {
-    const TEXTS: &[(&str, &str)] = &[
+/// The toggle on three nodes, with its plan, a state of it, and these rows.
+fn three_nodes<'x>(rows: &'x str) -> [(&'x str, &'x str); 5] {
+    [
         ("d", TOGGLE),
         ("b", TRIANGLE),
         ("p", TOGGLE_PLAN),
-        ("s", "1\nhold 256\n"),
-    ];
+        ("t", "state 1 3 1 0\n"),
+        ("s", rows),
+    ]
+}
+
+/// How a call ends, and how often links were laid and lifted in it. The link with the number `refused` isn't laid.
+fn laid_and_lifted<R: Threads + Wait + Copy + Send + Sync>(
+    rt: &R,
+    alloc: Global,
+    words: &[&str],
+    rows: &str,
+    refused: u32,
+) -> Result<(u8, u32, u32), AllocError> {
+    let texts = three_nodes(rows);
     let call = Call {
-        words: &["run", "d", "b", "s", "plan=p", "workers=2"],
-        texts: TEXTS,
+        words,
+        texts: &texts,
         most: MOST,
         fault: Fault::None,
     };
@@ -70,11 +77,37 @@ fn laid_and_lifted<R: Threads + Wait + Copy + Send + Sync>(
     Ok((ended.status, counted.laid, counted.lifted))
 }
 
-/// A board of six links lays each for 256 clocks, and again for the one behind them.
+/// A board of six links lays each for up to 256 clocks, and again for those behind them.
 #[test]
 fn each_batch_lays_each_link_once(rt: HostRuntime) -> Result<(), Fail> {
-    let found = laid_and_lifted(&rt, rt.alloc(), 0)?;
-    assert_eq!(&rt; found, (0, 12, 12));
+    const COMMANDS: &[&[&str]] = &[
+        &["run", "d", "b", "s", "plan=p", "workers=2"],
+        &["save", "d", "b", "s", "plan=p", "workers=2"],
+        &["resume", "d", "b", "t", "s", "plan=p", "workers=2"],
+    ];
+    const CLOCKS: &[(&str, u32)] = &[("hold 256\n", 6), ("1\nhold 256\n", 12), ("hold 513\n", 18)];
+    for words in COMMANDS {
+        for (rows, laid) in CLOCKS {
+            let found = laid_and_lifted(&rt, rt.alloc(), words, rows, 0)?;
+            assert_eq!(&rt; found, (0, *laid, *laid), "{words:?}");
+        }
+    }
+    Ok(())
+}
+
+/// With one worker no link is laid.
+#[test]
+fn one_worker_lays_no_link(rt: HostRuntime) -> Result<(), Fail> {
+    const COMMANDS: &[&[&str]] = &[
+        &["run", "d", "b", "s", "plan=p", "workers=1"],
+        &["save", "d", "b", "s", "workers=1"],
+        &["resume", "d", "b", "t", "s", "workers=1"],
+        &["demo", "100", "workers=1"],
+    ];
+    for words in COMMANDS {
+        let found = laid_and_lifted(&rt, rt.alloc(), words, "1\n", 0)?;
+        assert_eq!(&rt; found, (0, 0, 0), "{words:?}");
+    }
     Ok(())
 }
 
@@ -82,7 +115,8 @@ fn each_batch_lays_each_link_once(rt: HostRuntime) -> Result<(), Fail> {
 #[test]
 fn what_was_laid_is_lifted_where_one_is_refused(rt: HostRuntime) -> Result<(), Fail> {
     for refused in 1..13u32 {
-        let found = laid_and_lifted(&rt, rt.alloc(), refused)?;
+        let words = &["run", "d", "b", "s", "plan=p", "workers=2"];
+        let found = laid_and_lifted(&rt, rt.alloc(), words, "1\nhold 256\n", refused)?;
         assert_eq!(&rt; found, (9, refused - 1, refused - 1));
     }
     Ok(())

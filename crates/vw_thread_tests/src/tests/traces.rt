@@ -83,6 +83,24 @@ fn a_latch_is_seen_at_its_own_clock_by_a_plan_of_their_own(rt: HostRuntime) -> R
     calls_end(&rt, rt.alloc(), &OWN_PLAN, FLIP_TEXTS, wanted, &[])
 }
 
+/// The latch at the end of a chain on which a bit takes three microcycles over one link.
+const FAR_TEXTS: &[(&str, &str)] = &[
+    ("d", FLIP),
+    ("b", FAR_CHAIN),
+    ("p", FAR_PLAN),
+    ("s", "hold 4\n"),
+];
+
+#[test]
+fn a_latch_is_seen_at_its_own_clock_over_links_with_delays(rt: HostRuntime) -> Result<(), Fail> {
+    const WORDS: &str = "0 1 0 0\n1 1 0 1\n2 1 0 0\n3 1 0 1\n";
+    const ALONE: [&[&str]; 1] = [&["run", "d", "b", "s", "plan=p", "workers=1"]];
+    let wanted = End::done(FLIP_TRACE);
+    let carried = ["", WORDS, "", WORDS];
+    calls_end(&rt, rt.alloc(), &GIVEN_PLAN, FAR_TEXTS, wanted, &carried)?;
+    calls_end(&rt, rt.alloc(), &ALONE, FAR_TEXTS, wanted, &NO_WORDS)
+}
+
 /// Chains of four and of five gates behind an input, on two chips with two cells each.
 const FOUR_TEXTS: &[(&str, &str)] = &[
     ("d", FOUR_GATES),
@@ -110,6 +128,17 @@ fn one_cell_more_is_refused_and_no_link_is_used(rt: HostRuntime) -> Result<(), F
     calls_end(&rt, rt.alloc(), &OWN_PLAN, FIVE_TEXTS, wanted, &NO_WORDS)
 }
 
+/// What link 3 carries while the toggle turns for 257 clocks: its table's value, which is 1 at each even clock.
+fn turning(alloc: Global) -> Result<String, AllocError> {
+    let mut words = String::new(alloc);
+    for clock in 0..257u32 {
+        let bit = clock & 1 ^ 1;
+        let word = format!(in alloc; "{clock} 1 0 {bit}\n")?;
+        words.push_str(word.as_str())?;
+    }
+    Ok(words)
+}
+
 /// 257 clocks are a batch and a clock, so the links are laid twice.
 #[test]
 fn links_are_laid_anew_for_each_batch(rt: HostRuntime) -> Result<(), Fail> {
@@ -133,13 +162,12 @@ fn links_are_laid_anew_for_each_batch(rt: HostRuntime) -> Result<(), Fail> {
             .bytes()
             .ends_with(b"255 1 1\n256 0 0\nend 257 1\n")
     );
-    let words = words_carried(rt.alloc(), &links, 3)?;
-    assert!(rt;
-        words
-            .as_bytes()
-            .ends_with(b"\n254 1 0 1\n255 1 0 0\n256 1 0 1\n")
-    );
-    Ok(())
+    let found = words_carried(rt.alloc(), &links, 3)?;
+    are_found(
+        found.as_bytes(),
+        turning(rt.alloc())?.as_bytes(),
+        "257 words",
+    )
 }
 
 #[test]
