@@ -4,7 +4,6 @@ use Rattle.std.specs.List.{find}
 use Rattle.vw_words.specs.Forms.{Place, keyword, any, name, bit, number, Setting, Form}
 use Rattle.vw_words.specs.Matched.{has_form, first_wrong}
 use Rattle.vw_words.specs.Values.{names_given, name_given, bit_given, number_given, number_or_zero}
-use Rattle.vw_top.specs.declared.forms.TheConstants.{MOST_PROBES, DEFAULT_WORKERS, MOST_CELLS}
 use Rattle.vw_top.specs.declared.forms.Verb.{Verb}
 use Rattle.vw_top.specs.declared.forms.Verb.TheVariants as verbs
 
@@ -33,7 +32,7 @@ unknown_setting = record { name = codes "unknown"; value = bit; times = 1 }
 
 -- a net that is watched
 abbrev pub probe_setting : Setting
-probe_setting = record { name = codes "probe"; value = name; times = MOST_PROBES }
+probe_setting = record { name = codes "probe"; value = name; times = 64 }
 
 -- the plan to run by
 abbrev pub plan_setting : Setting
@@ -52,14 +51,15 @@ unknown_given settings = bit_given unknown_setting false settings
 
 -- the form lets no more probes through
 abbrev pub probes_given : List (List ℕ) → List (List ℕ)
-probes_given settings = take MOST_PROBES (names_given probe_setting settings)
+probes_given settings = take 64 (names_given probe_setting settings)
 
+-- where no word says how many, there are four
 abbrev pub workers_given : List (List ℕ) → ℕ
-workers_given settings = number_given workers_setting DEFAULT_WORKERS settings
+workers_given settings = number_given workers_setting 4 settings
 
--- the number of cells that a word spells: the form lets no other number through than 1 to the most
+-- the number of cells that a word spells: the form lets no other number through than 1 to 20000
 abbrev pub cells_given : List ℕ → ℕ
-cells_given word = max 1 (min (number_or_zero word) MOST_CELLS)
+cells_given word = max 1 (min (number_or_zero word) 20000)
 
 -- ---- what words of the form of a command spell
 
@@ -155,7 +155,7 @@ commands =
     ∷ record { verb = verbs.Save; form = form_with (codes "save") (file ∷ file ∷ file ∷ []) (plan_setting ∷ workers_setting ∷ unknown_setting ∷ []) }
     ∷ record { verb = verbs.Resume; form = form_with (codes "resume") (file ∷ file ∷ file ∷ file ∷ []) (plan_setting ∷ workers_setting ∷ unknown_setting ∷ []) }
     ∷ record { verb = verbs.Emit; form = form_with (codes "emit") (file ∷ file ∷ []) (plan_setting ∷ []) }
-    ∷ record { verb = verbs.Demo; form = form_with (codes "demo") (any (number 1 MOST_CELLS) ∷ []) (workers_setting ∷ []) }
+    ∷ record { verb = verbs.Demo; form = form_with (codes "demo") (any (number 1 20000) ∷ []) (workers_setting ∷ []) }
     ∷ record { verb = verbs.Help; form = form_with (codes "--help") [] [] }
     ∷ record { verb = verbs.Version; form = form_with (codes "--version") [] [] }
     ∷ []
