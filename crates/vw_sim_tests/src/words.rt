@@ -2,7 +2,8 @@
 use std::alloc::Global;
 use std::process::Abort;
 use std::test::Fail;
-use vw_sample_calls::{are_found, names_of};
+use vw_outside::Name;
+use vw_sample_calls::names_of;
 use vw_words::{Entry, Form, Place, Setting, Value, command_of, first_wrong, number_or_zero};
 
 const NAME: Place = Place::Any(Value::Name);
@@ -62,6 +63,11 @@ const FORMS: &[Entry<u8>] = &[
     },
 ];
 
+/// Asserts the form of some words and the place of the first wrong one.
+fn is_found(rt: &impl Abort, words: &[&str], found: (Option<u8>, u64), wanted: (Option<u8>, u64)) {
+    assert_eq!(rt; found, wanted, "{words:?}");
+}
+
 /// Asserts, for each of these lists of words, the number of the form that they have, or that they have none, and the
 /// place of the first wrong word.
 fn forms_are_found(
@@ -71,8 +77,8 @@ fn forms_are_found(
 ) -> Result<(), Fail> {
     for (words, form, wrong) in table {
         let names = names_of(alloc, words)?;
-        assert_eq!(rt; command_of(FORMS, &names), *form, "{words:?}");
-        assert_eq!(rt; first_wrong(FORMS, &names), *wrong, "{words:?}");
+        let found = (command_of(FORMS, &names), first_wrong(FORMS, &names));
+        is_found(rt, words, found, (*form, *wrong));
     }
     Ok(())
 }
@@ -135,32 +141,53 @@ fn the_first_wrong_word_has_its_place(rt: HostRuntime) -> Result<(), Fail> {
     forms_are_found(&rt, rt.alloc(), TABLE)
 }
 
+/// Whether these probes, and no others, are given.
+fn are_probes(words: &[Name], wanted: &[&[u8]]) -> bool {
+    let mut probes = PROBE.names(words);
+    for probe in wanted {
+        if probes.next() != Some(*probe) {
+            return false;
+        }
+    }
+    probes.next().is_none()
+}
+
+/// Whether the plan, the number of workers and the bit are these, where 4 and the other bit stand for what isn't given.
+fn are_settings(words: &[Name], plan: Option<&[u8]>, workers: u64, bit: bool) -> bool {
+    PLAN.name(words) == plan
+        && WORKERS.number(words, 4) == workers
+        && UNKNOWN.bit(words, !bit) == bit
+}
+
 #[test]
 fn settings_have_their_values(rt: HostRuntime) -> Result<(), Fail> {
-    let alloc = rt.alloc();
-    let words = names_of(
-        alloc,
-        &["probe=b/c", "workers=8", "plan=a=b", "unknown=1", "probe=a"],
-    )?;
-    let names = PROBE.names(&words).collect::<Vec<&[u8]>>(alloc)?;
-    assert_eq!(&rt; names.len(), 2);
-    are_found(names[0], b"b/c", "the first probe")?;
-    are_found(names[1], b"a", "the second probe")?;
-    are_found(PLAN.name(&words).unwrap_or(b""), b"a=b", "the plan")?;
-    assert_eq!(&rt; WORKERS.number(&words, 4), 8);
-    assert!(&rt; UNKNOWN.bit(&words, false));
+    const WORDS: &[&str] = &["probe=b/c", "workers=8", "plan=a=b", "unknown=1", "probe=a"];
+    let words = names_of(rt.alloc(), WORDS)?;
+    assert!(&rt; are_probes(&words, &[b"b/c", b"a"]));
+    assert!(&rt; are_settings(&words, Some(b"a=b"), 8, true));
     Ok(())
+}
+
+/// Whether none of the settings is given, so that each has its default.
+fn are_defaults(words: &[Name]) -> bool {
+    WORKERS.number(words, 4) == 4
+        && UNKNOWN.bit(words, true)
+        && PLAN.name(words).is_none()
+        && PROBE.names(words).next().is_none()
+}
+
+/// The number that the first word spells.
+fn first_number(words: &[Name]) -> u64 {
+    match words.first() {
+        Some(word) => number_or_zero(word),
+        None => 0,
+    }
 }
 
 #[test]
 fn settings_that_are_not_given_have_their_defaults(rt: HostRuntime) -> Result<(), Fail> {
     let words = names_of(rt.alloc(), &["7"])?;
-    assert_eq!(&rt; WORKERS.number(&words, 4), 4);
-    assert!(&rt; UNKNOWN.bit(&words, true));
-    assert!(&rt; PLAN.name(&words).is_none());
-    assert!(&rt; PROBE.names(&words).next().is_none());
-    if let [word] = words.as_slice() {
-        assert_eq!(&rt; number_or_zero(word), 7);
-    }
+    assert!(&rt; are_defaults(&words));
+    assert_eq!(&rt; first_number(&words), 7);
     Ok(())
 }
