@@ -4,6 +4,7 @@ ghost use Rattle.std.specs.List.{All};
 ghost use Rattle.vw_net.specs.Cells.{latch_count};
 ghost use Rattle.vw_net.specs.History.{outputs_of, state_after, states_of};
 ghost use Rattle.vw_prog.specs.Scripts.{planned_of};
+ghost use Rattle.vw_batches.specs.Runs.{next_clock};
 ghost use Rattle.vw_batches.specs.Traffic.{after_rows};
 
 use crate::running_board::{RunningBoard, batch_of};
@@ -70,15 +71,14 @@ impl<R: Threads + Wait + Sync, F: Fabric, G: BurstGate> CrewedBoard<'_, '_, '_, 
         Ok(crew.close(self.fabric))
     }
 
-    /// Works out the clocks of some rows, of which the first has the number `first`, counted from 0. `state` has the
-    /// value of each latch before the first clock, in the order of the cells, and gets those after the last.
+    /// Works out the board's next clocks, those of some rows. `state` has the value of each latch before the first of
+    /// them, in the order of the cells, and gets those after the last.
     ///
     /// It takes memory for these clocks, all of it before the first. Where there is none, no clock was worked out, and
-    /// nothing is known of `state`.
+    /// nothing is known of `state` and of the next clock.
     pub fn work_out(
         &mut self,
         alloc: Global,
-        first: u64,
         rows: Rows,
         state: &mut Bits,
     ) -> Result<Batch, AllocError>
@@ -86,10 +86,12 @@ impl<R: Threads + Wait + Sync, F: Fabric, G: BurstGate> CrewedBoard<'_, '_, '_, 
             ≡ self.old.board.now.job.checked.ordered.flat.inputs) rows }
         requires latches { length state.old
             ≡ latch_count self.old.board.now.job.checked.ordered.flat.cells }
-        requires few { first + length rows < 2 ^ 32 }
+        requires few { next_clock self.old.board.now.job + length rows < 2 ^ 32 }
         ensures checked { self.new.board.now.job.checked ≡ self.old.board.now.job.checked }
         ensures workers { self.new.workers ≡ self.old.workers }
         ensures fabric { self.new.fabric.ghost_name ≡ self.old.fabric.ghost_name }
+        ensures done { OnOk result (next_clock self.new.board.now.job
+            ≡ next_clock self.old.board.now.job + length rows) }
         ensures outputs { IfOk result (λ batch. batch.outputs
             ≡ outputs_of self.old.board.now.job.checked.ordered.flat state.old rows) }
         ensures states { IfOk result (λ batch. batch.states
@@ -97,12 +99,12 @@ impl<R: Threads + Wait + Sync, F: Fabric, G: BurstGate> CrewedBoard<'_, '_, '_, 
         ensures state { OnOk result (state.new
             ≡ state_after self.old.board.now.job.checked.ordered.flat state.old rows) }
         ensures carried { OnOk result (F.carried self.new.fabric.now
-            ≡ after_rows self.old.workers (planned_of self.old.board.now.job) first state.old rows
-            (F.carried self.old.fabric.now)) }
+            ≡ after_rows self.old.workers (planned_of self.old.board.now.job)
+            (next_clock self.old.board.now.job) state.old rows (F.carried self.old.fabric.now)) }
         ensures uncarried { OnErr result (F.carried self.new.fabric.now
             ≡ F.carried self.old.fabric.now) }
     {
-        self.board.take_job(alloc, first, rows, state);
+        self.board.take_job(alloc, rows, state);
         let answer = self.work(alloc)?;
         Ok(batch_of(answer, state))
     }

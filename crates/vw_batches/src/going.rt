@@ -3,6 +3,7 @@
 //! The clocks are written down as in `vw_trace`, whose lemmas prove it. They aren't worked out by that crate's engine, since
 //! the toolchain has no proof for a trait's method that starts threads over what its type is generic in.
 ghost use Rattle.std.specs.Prelude.{◌≡◌, ◌<◌, ◌≤◌, ◌+◌, ◌^◌, ℕ, List, length, OnOk};
+ghost use Rattle.std.specs.Bool.{OnTrue};
 ghost use Rattle.std.specs.List.{All};
 ghost use Rattle.vw_net.specs.Cells.{latch_count};
 ghost use Rattle.vw_net.specs.History.{flat_history, state_after};
@@ -10,8 +11,8 @@ ghost use Rattle.vw_outside.specs.Told.{held};
 ghost use Rattle.vw_prog.specs.Scripts.{planned_of};
 ghost use Rattle.vw_rows.specs.Standing.{StandsIn};
 ghost use Rattle.vw_trace.specs.Steps.Recording.{RecordsClocks, RecordsOut};
-ghost use Rattle.vw_trace.specs.Streamed.{DoneFor, Streams};
-ghost use Rattle.vw_batches.specs.Runs.{HaveRun};
+ghost use Rattle.vw_trace.specs.Streamed.{DoneFor, StopsSilently, Streams};
+ghost use Rattle.vw_batches.specs.Runs.{HaveRun, next_clock};
 ghost use Rattle.vw_batches.specs.Traffic.{HaveCarried};
 
 use crate::crewed_board::CrewedBoard;
@@ -44,6 +45,7 @@ fn record_batch<T: Threads + Wait + Sync, F: Fabric, G: BurstGate, R: Recorder, 
         ≡ length crewed.old.board.now.job.checked.ordered.flat.outputs }
     requires its_latches { R.latches recorder.old
         ≡ latch_count crewed.old.board.now.job.checked.ordered.flat.cells }
+    requires unstarted { next_clock crewed.old.board.now.job ≡ R.clocks recorder.old }
     requires few { R.clocks recorder.old + length rows < 2 ^ 32 }
     ensures checked { crewed.new.board.now.job.checked ≡ crewed.old.board.now.job.checked }
     ensures workers { crewed.new.workers ≡ crewed.old.workers }
@@ -54,6 +56,10 @@ fn record_batch<T: Threads + Wait + Sync, F: Fabric, G: BurstGate, R: Recorder, 
     ensures records { RecordsOut crewed.old.board.now.job.checked.ordered.flat rows
         (record { clock = R.clocks recorder.old; state = state.old; left = R.left recorder.old })
         (R.left recorder.new) (O.seen out.old) (O.seen out.new) result }
+    ensures done { OnOk result (next_clock crewed.new.board.now.job
+        ≡ R.clocks recorder.old + length rows) }
+    ensures silent { OnTrue (R.waits recorder.old) (OnOk result (O.seen out.new ≡ O.seen out.old)) }
+    ensures waits { OnOk result (R.waits recorder.new ≡ R.waits recorder.old) }
     ensures clocks { OnOk result (R.clocks recorder.new ≡ R.clocks recorder.old + length rows) }
     ensures its_outputs { OnOk result (R.outputs recorder.new ≡ R.outputs recorder.old) }
     ensures its_latches { OnOk result (R.latches recorder.new ≡ R.latches recorder.old) }
@@ -61,7 +67,7 @@ fn record_batch<T: Threads + Wait + Sync, F: Fabric, G: BurstGate, R: Recorder, 
         ≡ state_after crewed.old.board.now.job.checked.ordered.flat state.old rows) }
 {
     histories_join();
-    let batch = crewed.work_out(alloc, recorder.next_clock(), rows, state)?;
+    let batch = crewed.work_out(alloc, rows, state)?;
     let lines = recorder.lines(alloc, &batch)?;
     put_text(Ok(lines), out)
 }
@@ -86,6 +92,7 @@ fn record_clocks<T: Threads + Wait + Sync, F: Fabric, G: BurstGate, R: Recorder,
         ≡ length crewed.old.board.now.job.checked.ordered.flat.outputs }
     requires its_latches { R.latches recorder.old
         ≡ latch_count crewed.old.board.now.job.checked.ordered.flat.cells }
+    requires unstarted { next_clock crewed.old.board.now.job ≡ R.clocks recorder.old }
     requires few { R.clocks recorder.old + stimulus.old.clocks < 2 ^ 32 }
     ensures fabric { crewed.new.fabric.ghost_name ≡ crewed.old.fabric.ghost_name }
     ensures records { RecordsClocks stimulus.old crewed.old.board.now.job.checked.ordered.flat
@@ -95,7 +102,11 @@ fn record_clocks<T: Threads + Wait + Sync, F: Fabric, G: BurstGate, R: Recorder,
         (R.clocks recorder.old) state.old (F.carried crewed.old.fabric.now)
         (F.carried crewed.new.fabric.now))
         (S.seen shelf.old) (O.seen out.old) (S.seen shelf.new) (O.seen out.new) result }
+    ensures silent { OnTrue (R.waits recorder.old)
+        (StopsSilently (O.seen out.old) (O.seen out.new) result) }
     ensures done { OnOk result (stimulus.new.done ≡ stimulus.old.clocks) }
+    ensures all { OnOk result (next_clock crewed.new.board.now.job
+        ≡ R.clocks recorder.old + stimulus.old.clocks) }
     ensures ends { OnOk result (length state.new ≡ R.latches recorder.new) }
 {
     histories_join();
@@ -127,6 +138,7 @@ fn record_run<T: Threads + Wait + Sync, F: Fabric, G: BurstGate, R: Recorder, S:
         ≡ length crewed.old.board.now.job.checked.ordered.flat.outputs }
     requires its_latches { R.latches recorder.old
         ≡ latch_count crewed.old.board.now.job.checked.ordered.flat.cells }
+    requires unstarted { next_clock crewed.old.board.now.job ≡ R.clocks recorder.old }
     requires few { R.clocks recorder.old + stimulus.old.clocks < 2 ^ 32 }
     ensures fabric { crewed.new.fabric.ghost_name ≡ crewed.old.fabric.ghost_name }
     ensures streams { Streams stimulus.old.name stimulus.old.width
@@ -136,12 +148,64 @@ fn record_run<T: Threads + Wait + Sync, F: Fabric, G: BurstGate, R: Recorder, S:
         state.old (F.carried crewed.old.fabric.now) (F.carried crewed.new.fabric.now)
         stimulus.old.clocks state.new result)
         (S.seen shelf.old) (O.seen out.old) (S.seen shelf.new) (O.seen out.new) result }
+    ensures silent { OnTrue (R.waits recorder.old)
+        (StopsSilently (O.seen out.old) (O.seen out.new) result) }
     ensures done { OnOk result (stimulus.new.done ≡ stimulus.old.clocks) }
+    ensures all { OnOk result (next_clock crewed.new.board.now.job
+        ≡ R.clocks recorder.old + stimulus.old.clocks) }
 {
     record_clocks(alloc, crewed, recorder, stimulus, state, shelf, out)?;
     let rest = recorder.end(alloc, state);
     put_text(rest, out)?;
     Ok(())
+}
+
+/// Runs a board over a checked stimulus, of which nothing was given, where its next clock is the recorder's.
+fn run_on<T: Threads + Wait + Sync, R: Recorder, S: Shelf, F: Fabric, G: BurstGate, O: Sink>(
+    rt: &T,
+    alloc: Global,
+    board: &mut RunningBoard,
+    recorder: &mut R,
+    workers: u32,
+    stimulus: &mut Stimulus,
+    state: &mut Bits,
+    shelf: &mut S,
+    fabric: &mut F,
+    gate: &G,
+    out: &mut O,
+) -> Result<(), RunFault>
+    requires some { 1 ≤ workers }
+    requires few_workers { workers ≤ 64 }
+    requires columns { stimulus.old.width ≡ board.old.job.checked.ordered.flat.inputs }
+    requires fresh { stimulus.old.done ≡ 0 }
+    requires stands { (text : List ℕ) → (S.seen shelf.old).told stimulus.old.name ≡ held text
+        → StandsIn stimulus.old text }
+    requires latches { length state.old ≡ latch_count board.old.job.checked.ordered.flat.cells }
+    requires its_outputs { R.outputs recorder.old
+        ≡ length board.old.job.checked.ordered.flat.outputs }
+    requires its_latches { R.latches recorder.old
+        ≡ latch_count board.old.job.checked.ordered.flat.cells }
+    requires unstarted { next_clock board.old.job ≡ R.clocks recorder.old }
+    requires few { R.clocks recorder.old + stimulus.old.clocks < 2 ^ 32 }
+    ensures streams { let planned = planned_of board.old.job in
+        Streams stimulus.old.name stimulus.old.width
+        (λ rows. R.left recorder.old (flat_history planned.ordered.flat state.old rows))
+        (HaveRun workers planned (R.clocks recorder.old) state.old (F.carried fabric.old)
+        (F.carried fabric.new) stimulus.old.clocks state.new result)
+        (S.seen shelf.old) (O.seen out.old) (S.seen shelf.new) (O.seen out.new) result }
+    ensures silent { OnTrue (R.waits recorder.old)
+        (StopsSilently (O.seen out.old) (O.seen out.new) result) }
+    ensures done { OnOk result (stimulus.new.done ≡ stimulus.old.clocks) }
+{
+    let mut crewed = CrewedBoard {
+        board,
+        rt,
+        fabric,
+        gate,
+        workers,
+        pace: Pace::new(),
+    };
+    record_run(alloc, &mut crewed, recorder, stimulus, state, shelf, out)
 }
 
 /// Runs a board over a checked stimulus, of which nothing was given, with 1 to 64 workers, and appends the text that a
@@ -156,7 +220,8 @@ fn record_run<T: Threads + Wait + Sync, F: Fabric, G: BurstGate, R: Recorder, S:
 ///
 /// Where a read or a write fails or memory runs out, a front of the text was appended, and nothing is known of `state` and
 /// of the recorder. Where nothing is told of the text of the stimulus, it may have changed since it was checked: then it may
-/// be found at fault, or what is written is of other rows with the same width.
+/// be found at fault, or what is written is of other rows with the same width. Where the rows can't be read again, a
+/// recorder that waits for its end has written nothing.
 pub fn go_on<T: Threads + Wait + Sync, R: Recorder, S: Shelf, F: Fabric, G: BurstGate, O: Sink>(
     rt: &T,
     alloc: Global,
@@ -188,15 +253,12 @@ pub fn go_on<T: Threads + Wait + Sync, R: Recorder, S: Shelf, F: Fabric, G: Burs
         (HaveRun workers planned (R.clocks recorder.old) state.old (F.carried fabric.old)
         (F.carried fabric.new) stimulus.old.clocks state.new result)
         (S.seen shelf.old) (O.seen out.old) (S.seen shelf.new) (O.seen out.new) result }
+    ensures silent { OnTrue (R.waits recorder.old)
+        (StopsSilently (O.seen out.old) (O.seen out.new) result) }
     ensures done { OnOk result (stimulus.new.done ≡ stimulus.old.clocks) }
 {
-    let mut crewed = CrewedBoard {
-        board,
-        rt,
-        fabric,
-        gate,
-        workers,
-        pace: Pace::new(),
-    };
-    record_run(alloc, &mut crewed, recorder, stimulus, state, shelf, out)
+    board.number_from(alloc, recorder.next_clock());
+    run_on(
+        rt, alloc, board, recorder, workers, stimulus, state, shelf, fabric, gate, out,
+    )
 }

@@ -5,6 +5,7 @@ ghost use Rattle.vw_net.specs.Cells.{latch_count};
 ghost use Rattle.vw_net.specs.History.{outputs_of, state_after, states_of};
 ghost use Rattle.vw_prog.specs.Actions.{ArePrograms};
 ghost use Rattle.vw_prog.specs.Scripts.{planned_of};
+ghost use Rattle.vw_batches.specs.Runs.{next_clock};
 
 use std::alloc::{AllocError, Global};
 use std::marker::Model;
@@ -47,7 +48,7 @@ impl RunningBoard {
     /// each latch.
     pub fn make(alloc: Global, checked: Checked) -> Result<Self, AllocError>
         ensures checked { IfOk result (λ board. board.job.checked ≡ checked) }
-        ensures unstarted { IfOk result (λ board. board.job.first + length board.job.rows ≡ 0) }
+        ensures unstarted { IfOk result (λ board. next_clock board.job ≡ 0) }
     {
         let programs = Programs::build(alloc, &checked)?;
         let start = checked.ordered().flat().start(alloc, false)?;
@@ -58,19 +59,28 @@ impl RunningBoard {
         })
     }
 
-    /// Makes these rows its job, of which the first has the number `first`, counted from 0. The start bits are taken out of
-    /// `state`. It takes no memory.
-    pub fn take_job(&mut self, alloc: Global, first: u64, rows: Rows, state: &mut Bits)
+    /// Lets its next clock have this number, counted from 0. It takes no memory.
+    pub fn number_from(&mut self, alloc: Global, clock: u64)
+        requires { clock < 2 ^ 32 }
+        ensures checked { self.new.job.checked ≡ self.old.job.checked }
+        ensures next { next_clock self.new.job ≡ clock }
+    {
+        self.job.stand_before(alloc, clock);
+    }
+
+    /// Makes these rows its job: they are those of its next clocks. The start bits are taken out of `state`. It takes no
+    /// memory.
+    pub fn take_job(&mut self, alloc: Global, rows: Rows, state: &mut Bits)
         requires columns { All (λ row. length row ≡ self.old.job.checked.ordered.flat.inputs) rows }
         requires latches { length state.old ≡ latch_count self.old.job.checked.ordered.flat.cells }
-        requires few { first + length rows < 2 ^ 32 }
+        requires few { next_clock self.old.job + length rows < 2 ^ 32 }
         ensures checked { self.new.job.checked ≡ self.old.job.checked }
-        ensures first { self.new.job.first ≡ first }
+        ensures first { self.new.job.first ≡ next_clock self.old.job }
         ensures start { self.new.job.start ≡ state.old }
         ensures rows { self.new.job.rows ≡ rows }
     {
         let start = replace(state, Bits::of(Vec::new(alloc)));
-        self.job.renew(first, start, rows);
+        self.job.renew(self.job.next(), start, rows);
     }
 
     /// The programs of its nodes.
@@ -111,11 +121,11 @@ impl RunningBoard {
 
 /// By itself a board runs in one worker: each batch is a job of its world.
 impl Engine for RunningBoard {
-    ghost use Rattle.std.specs.Prelude.{◌+◌, length, Some};
+    ghost use Rattle.vw_batches.specs.Runs.{next_clock};
 
     ghost netlist = { λ board. board.job.checked.ordered.flat };
 
-    ghost done = { λ board. Some (board.job.first + length board.job.rows) };
+    ghost done = { λ board. next_clock board.job };
 
     fn flat(&self) -> &Flat {
         self.flat()
@@ -124,11 +134,10 @@ impl Engine for RunningBoard {
     fn work_out(
         &mut self,
         alloc: Global,
-        first: u64,
         rows: Rows,
         state: &mut Bits,
     ) -> Result<Batch, AllocError> {
-        self.take_job(alloc, first, rows, state);
+        self.take_job(alloc, rows, state);
         let answer = self.work_alone(alloc)?;
         Ok(batch_of(answer, state))
     }

@@ -154,6 +154,26 @@ module _ (V : Vocabulary) (files : Files V) (call : SeenCall V.Word) where
         (λ A Good Bad Comes apart sure next some here. inr (making_stops Bad is.answer (λ reason. sure reason some) is.ends here))
         course comes is.follows
 
+  -- the call of a course that is to do such work, or to refuse for such a reason
+  module _ (What : Work V.Word → Type 0) (Why : V.Reason → Type 0) where
+    abbrev Settled : Type 0
+    Settled = IsCarriedOut V What files call ⊎ IsRefusedFor V Why call
+
+    settled : IsRefusedFor V Why call ⊎ IsStopped V files call → Settled
+    settled (inl refused) = inr refused
+    settled (inr stopped) = inl (stopped_working What stopped)
+
+    settles_there : (answer : Answer V) → EndsAs answer → (place : Course V) → IsToWork told files What place ⊎ IsToRefuse Why place → May told (EndsHere before after answer) place → Settled
+    settles_there answer ends place (inl is) here = inl (works_there What answer ends place is here)
+    settles_there answer ends place (inr is) here = settled (refuses_there Why answer ends place is here)
+
+    pub call_settled : (course : Course V) → IsCallOf course call → StandsAt told files (λ place. IsToWork told files What place ⊎ IsToRefuse Why place) course → Settled
+    call_settled course is comes =
+        stands told files (λ place. IsToWork told files What place ⊎ IsToRefuse Why place) (EndsHere before after is.answer) (settles_there is.answer is.ends)
+        (λ file name next one here. inl (stopped_working What (reading_stops file name is.answer one is.ends here)))
+        (λ A Good Bad Comes apart sure next some here. inl (stopped_working What (making_stops Bad is.answer (λ reason. sure reason some) is.ends here)))
+        course comes is.follows
+
   misses_there : (answer : Answer V) → EndsAs answer → (place : Course V) → IsToMiss told files place → May told (EndsHere before after answer) place → IsStopped V files call
   misses_there answer ends (works over work) is here = absurd is
   misses_there answer ends (refuses reason) is here = absurd is

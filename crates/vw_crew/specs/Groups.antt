@@ -1,4 +1,4 @@
--- Groups of nodes with the ends of their links. No public clause cites it.
+-- Groups of nodes with the ends of their links. No public clause cites it, but the view of a crew does.
 use Rattle.std.specs.Prelude.{◌≡◌, ◌<◌, ◌+◌, ◌*◌, ◌/◌, ◌%◌, ℕ, suc, Bool, List, length, map, slice_get, Option, Some}
 use Rattle.std.specs.Option.{option_and_then}
 use Rattle.vw_prog.specs.declared.job.Job.{Job}

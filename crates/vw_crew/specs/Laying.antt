@@ -1,4 +1,4 @@
--- Links that are laid and lifted, and what a fabric tells of them. No public clause cites it.
+-- Links that are laid and lifted, and what a fabric tells of them. No public clause cites it, but what a crew keeps does.
 use Rattle.std.specs.Prelude.{◌≡◌, ◌<◌, ◌≤◌, ℕ, suc, Bool, true, List, ◌++◌, length, take, slice_get, nat_lt, Some, option_map, if◌then◌else◌}
 use Rattle.std.specs.Option.{is_some}
 use Rattle.vw_plan.specs.declared.link.Link.{Link}

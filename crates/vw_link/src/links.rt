@@ -48,8 +48,8 @@ impl<R> Links<R> {
         }
     }
 
-    /// The word with a number, from 0, among those that a link has carried, oldest first; None where there are no more, or where no
-    /// words are kept. It takes no memory.
+    /// The word with a number, from 0, among those that a link has carried, oldest first; None where there are no more. Where no
+    /// words are kept, no clause says what it gives. It takes no memory.
     pub fn carried(&self, link: u32, number: u64) -> Option<Word>
         ensures { IfSome (carried_of self.now)
             (λ carried. result ≡ slice_get (carried link) number) }

@@ -31,16 +31,15 @@ use Rattle.vw_prog.specs.declared.shift.LoopNet.{LoopNet}
 use Rattle.vw_prog.specs.declared.shift.ShiftLoop.{ShiftLoop}
 use Rattle.vw_prog.specs.Actions.{action_of, actions}
 use Rattle.vw_prog.specs.Codes.{BeginsWithAction, HasSlot, IsCode, IsTableGate, IsWideGate, net_slot, taken_net}
-use Rattle.vw_prog.specs.Coding.{IsCodeOf, RiseByMicrocycles, action_gates, action_op, action_wide, all_gates, all_ops, gate_nets, cell_gates, cell_op, cell_wide, joined_ops, known_nets, named_all, no_slot, own_latch, read_at, slot_in, table_gate, take_nets, wide_gate}
+use Rattle.vw_prog.specs.Coding.{IsCodeOf, action_gates, action_op, action_wide, all_gates, all_ops, gate_nets, cell_gates, cell_op, cell_wide, joined_ops, known_nets, named_all, no_slot, own_latch, read_at, slot_in, table_gate, take_nets, wide_gate}
 use Rattle.vw_prog.specs.Due.{settles_net, is_due, is_source, own_latches, nets_read, recorded}
 use Rattle.vw_prog.specs.Loops.{AreLoops, loop_place}
 use Rattle.vw_prog.specs.SeenGates.{SeenGate, narrowed, seen_gates}
 use Rattle.vw_prog.specs.Timetable.{entries_at, is_evaluating, is_sending, timetable}
-use Rattle.vw_prog.proofs.DueReads.{finds_ends, finds_reads, own_rises}
+use Rattle.vw_prog.proofs.DueReads.{finds_ends, finds_reads}
 use Rattle.vw_prog.proofs.EntryParts.{HasParts, entry_has}
 use Rattle.vw_prog.proofs.JoinedOps.{Becomes, IsKept, all_ones, joined_at, joined_runs, kept_at, length-all_ops, length-joined}
 use Rattle.vw_prog.proofs.LinkPasses.{turn_of}
-use Rattle.vw_prog.proofs.Sequencers.{by_microcycles}
 use Rattle.vw_prog.proofs.ShiftLoops.{AllNets, OfSent, are_loops, nets_all}
 use Rattle.vw_prog.proofs.NamedNets.{all_have_slots, below, first_slots}
 
@@ -515,7 +514,7 @@ module _ (planned : PlannedBoard) (sound : IsSound planned) (node : ℕ) where
       by true = refl
       by false = map_twice (λ (latch : OwnLatch). slot_in table latch.net) (own_latch flat) own
 
-    -- ---- shift loops, and the sequencer
+    -- ---- shift loops
 
     all_sent : AllByRecursion (λ (one : ShiftLoop). AllByRecursion (λ (item : LoopNet). net_slot nets item.net ≡ Some item.slot) one.nets) code.loops.items
     all_sent =
@@ -526,9 +525,6 @@ module _ (planned : PlannedBoard) (sound : IsSound planned) (node : ℕ) where
           by place (action.Send link pin net) at = sent_in place link pin net at
           by place (action.Take link pin net) at = refl
           by place action.Step at = refl
-
-    own_in_order : RiseByMicrocycles own_entries
-    own_in_order = by_microcycles own_entries (own_rises planned sound node)
 
     pub stands : IsCode planned node program code
     stands = record {
@@ -541,7 +537,6 @@ module _ (planned : PlannedBoard) (sound : IsSound planned) (node : ℕ) where
       sends = λ place one at.
           All-from_recursion (λ (item : LoopNet). net_slot nets item.net ≡ Some item.slot) one.nets
           (all_at (λ (one : ShiftLoop). AllByRecursion (λ (item : LoopNet). net_slot nets item.net ≡ Some item.slot) one.nets) code.loops.items place one all_sent at);
-      sequencer = made.sequencer own_in_order;
       sources = λ net is. let known_net = source_known net is in (slot_in table net, known_slot net known_net.0 known_net.1);
       host = λ is net low.
           let rest = map (λ (latch : OwnLatch). latch.net) latches ++ gate_nets inputs program ++ take_nets program in

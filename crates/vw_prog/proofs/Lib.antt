@@ -13,7 +13,6 @@ pub mod ShiftLoops
 pub mod NarrowedGates
 pub mod UnfoldedCodes
 pub mod LoopTurns
-pub mod Sequencers
 pub mod CodesStand
 pub mod MadeCodes
 pub mod HopPlaces

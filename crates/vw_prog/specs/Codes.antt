@@ -20,8 +20,6 @@ use Rattle.vw_prog.specs.declared.shift.ShiftLoop.{ShiftLoop}
 use Rattle.vw_prog.specs.Due.{is_source, own_latches, recorded}
 use Rattle.vw_prog.specs.Loops.{AreLoops}
 use Rattle.vw_prog.specs.SeenGates.{SeenGate, seen_gates}
-use Rattle.vw_prog.specs.Sequencer.{IsSequencer, microcycle}
-use Rattle.vw_prog.specs.Timetable.{entries_at, timetable}
 
 -- the slot of a net: its first place among the nets of slots
 abbrev pub net_slot : List ℕ → ℕ → Option ℕ
@@ -80,8 +78,6 @@ pub record IsCode (planned : PlannedBoard) (node : ℕ) (program : List Action) 
   -- a loop for each pin that is sent over; and the slots of its nets
   pub loops : AreLoops program code.loops.items
   pub sends : (place : ℕ) (one : ShiftLoop) → slice_get code.loops.items place ≡ Some one → All (λ item. net_slot code.nets.items item.net ≡ Some item.slot) one.nets
-  -- the microcycles in which the node acts
-  pub sequencer : IsSequencer (map microcycle (entries_at node (timetable planned))) code.sequencer.items
   -- the inputs and latches of the node have slots, and the host's inputs the first ones
   pub sources : (net : ℕ) → IsTrue (is_source planned node net) → HasSlot code.nets.items net
   pub host : node ≡ 0 → (net : ℕ) → net < planned.ordered.flat.inputs → net_slot code.nets.items net ≡ Some net

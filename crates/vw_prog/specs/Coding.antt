@@ -1,7 +1,7 @@
 -- How the code of a node is made, step by step. No public clause cites it.
 use Rattle.std.specs.Prelude.{◌≡◌, ◌<◌, ◌-◌, ◌+◌, ◌^◌, ◌==◌, ◌&&◌, ◌≤◌, ℕ, not, List, [], ◌∷◌, ◌++◌, length, map, min, take, slice_get, slice_index_or, slice_set, nat_le, nat_lt, unwrap_or, count_by, Option, Some, None, IsTrue, true, if◌then◌else◌}
 use Rattle.std.specs.Global.{Vec}
-use Rattle.std.specs.List.{AllByRecursion, range_with_len}
+use Rattle.std.specs.List.{range_with_len}
 use Rattle.std.specs.Option.{is_some}
 use Rattle.vw_net.specs.declared.cell.Cell.{Cell}
 use Rattle.vw_net.specs.declared.cell.Cell.TheVariants.{Gate, Latch}
@@ -24,7 +24,6 @@ use Rattle.vw_prog.specs.Actions.{action_of}
 use Rattle.vw_prog.specs.Codes.{net_slot, taken_net}
 use Rattle.vw_prog.specs.Loops.{is_of, loop_place}
 use Rattle.vw_prog.specs.SeenGates.{AreNarrowed}
-use Rattle.vw_prog.specs.Sequencer.{IsSequencer, microcycle}
 
 -- ---- slots
 
@@ -119,13 +118,6 @@ abbrev pub all_loops : List ℕ → List ShiftLoop → List Action → List Shif
 all_loops table loops [] = loops
 all_loops table loops (one ∷ actions) = all_loops table (action_loops table one loops) actions
 
--- ---- sequencers
-
--- no entry is in an earlier microcycle than one before it
-abbrev pub RiseByMicrocycles : List Entry → Type 0
-RiseByMicrocycles [] = IsTrue true
-RiseByMicrocycles (entry ∷ entries) = AllByRecursion (λ later. microcycle entry ≤ microcycle later) entries × RiseByMicrocycles entries
-
 -- ---- actions
 
 -- the actions of entries, and then a step
@@ -202,7 +194,6 @@ pub record IsCodeOf (flat : Flat) (node : ℕ) (own : List OwnLatch) (entries : 
   pub loops : code.loops.items ≡ all_loops table [] (program_of flat.inputs entries)
   pub gates : AreNarrowed (all_gates flat table (program_of flat.inputs entries)) code.gates
   pub wide : code.wide.items ≡ all_wide flat table (program_of flat.inputs entries)
-  pub sequencer : RiseByMicrocycles entries → IsSequencer (map microcycle entries) code.sequencer.items
   pub records : code.records.items ≡ record_slots flat node own table
   pub latches : code.latches.items ≡ map (λ latch. slot_in table latch.net) own
   pub inputs : code.inputs.items ≡ map (λ latch. slot_in table latch.taken) own

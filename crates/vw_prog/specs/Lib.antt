@@ -2,7 +2,6 @@ pub mod Timetable
 pub mod SeenLoop
 pub mod SeenGates
 pub mod Loops
-pub mod Sequencer
 pub mod Unfolded
 pub mod Actions
 pub mod Codes

@@ -38,23 +38,12 @@ pub enum Op {
     Step,
 }
 
-/// A microcycle in which a node acts.
-#[derive(Clone, Copy)]
-pub struct Microcycle {
-    /// Its number, from 0.
-    pub number: u64,
-    /// How many actions of a clock the node has made by its end.
-    pub end: usize,
-}
-
 /// What a node does in one clock, in the form in which it runs. The bit of each net that the node knows has a slot of its own.
 pub struct Code {
     /// For each action what it does from there on: a gate of at most six inputs goes together with those behind it.
     pub ops: Vec<Op>,
     /// A shift loop for each pin that it sends over.
     pub loops: Vec<ShiftLoop>,
-    /// The microcycles in which it acts, but for the step at the end: each once, in order.
-    pub sequencer: Vec<Microcycle>,
     /// Its gates of at most six inputs, in order.
     pub gates: Gates,
     /// Its wider gates, in order.
@@ -76,7 +65,6 @@ impl Drop for Code {
         let Code {
             ops: _,
             loops: _,
-            sequencer: _,
             gates: _,
             wide: _,
             nets: _,

@@ -18,7 +18,6 @@ use crate::naming::{
     NO_SLOT, clear, list_gates, list_inputs, list_latches, list_takes, name_all, slot_at, slots_at,
 };
 use crate::owners::{OwnLatch, owned_latches};
-use crate::sequencer::sequencer_of;
 use std::alloc::{AllocError, Global};
 use vw_net::Flat;
 use vw_plan::Checked;
@@ -125,7 +124,6 @@ fn code_of(
     name_all(&known, &mut nets, table)?;
     let parts = parts_of(alloc, flat, table, &actions)?;
     let gates = gates_of(alloc, &parts.gates)?;
-    let sequencer = sequencer_of(alloc, entries)?;
     let records = record_slots(alloc, flat, node, own, table)?;
     let latches = latch_slots(alloc, table, own)?;
     let inputs = taken_slots(alloc, table, own)?;
@@ -134,7 +132,6 @@ fn code_of(
     Ok(Code {
         ops: parts.ops,
         loops: parts.loops,
-        sequencer,
         gates,
         wide: parts.wide,
         nets,

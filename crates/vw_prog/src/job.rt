@@ -2,6 +2,7 @@ ghost use Rattle.std.specs.Prelude.{◌≡◌, ◌≤◌, ◌<◌, ◌+◌, ◌^
 ghost use Rattle.std.specs.List.{All};
 ghost use Rattle.vw_net.specs.Cells.{latch_count};
 
+use std::alloc::Global;
 use vw_net::{Bits, Rows};
 use vw_plan::Checked;
 
@@ -64,19 +65,21 @@ impl Job {
         self.rows = rows;
     }
 
-    /// The design on its board, the start bits and the rows. It takes no memory.
-    pub fn into_parts(self) -> (Checked, Bits, Rows)
-        ensures checked { result.0 ≡ self.checked }
-        ensures start { result.1 ≡ self.start }
-        ensures rows { result.2 ≡ self.rows }
+    /// The number of the clock behind its last one.
+    pub fn next(&self) -> u64
+        ensures { result ≡ self.now.first + length self.now.rows }
     {
-        let Job {
-            checked,
-            first: _,
-            start,
-            rows,
-        } = self;
-        (checked, start, rows)
+        self.first + self.rows.len() as u64
+    }
+
+    /// Makes it a job of no clocks, behind which the clock with this number comes. Its start bits stay. It takes no memory.
+    pub fn stand_before(&mut self, alloc: Global, clock: u64)
+        requires { clock < 2 ^ 32 }
+        ensures checked { self.new.checked ≡ self.old.checked }
+        ensures next { self.new.first + length self.new.rows ≡ clock }
+    {
+        self.first = clock;
+        self.rows = Rows::new(alloc);
     }
 
     /// The design on its board, with its plan.

@@ -16,14 +16,13 @@ mod laws;
 mod naming;
 mod owners;
 mod programs;
-mod sequencer;
 mod shift;
 mod unfolding;
 mod word;
 
 pub use action::Action;
 pub use answer::Answer;
-pub use code::{Code, Microcycle, Op, WideGate};
+pub use code::{Code, Op, WideGate};
 pub use ends::{Ends, Fabric, PutEnd, TakeEnd};
 pub use gates::{Gates, TableGate};
 pub use job::{Job, Share};

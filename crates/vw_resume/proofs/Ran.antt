@@ -11,8 +11,8 @@ use Rattle.vw_outside.specs.Writes.{SeenSink}
 use Rattle.vw_plan.specs.PlannedBoard.{PlannedBoard}
 use Rattle.vw_prog.specs.Fabric.{Carried}
 use Rattle.vw_trace.specs.declared.fault.RunFault.{RunFault}
-use Rattle.vw_trace.specs.Streamed.{Streams}
-use Rattle.vw_trace.proofs.StreamedTexts.{other_done}
+use Rattle.vw_trace.specs.Streamed.{HasClocks, Streams}
+use Rattle.vw_trace.proofs.StreamedTexts.{counted, other_done}
 use Rattle.vw_batches.specs.Runs.{HaveRun}
 use Rattle.vw_batches.specs.Traffic.{HaveCarried}
 use Rattle.vw_resume.specs.declared.state.State.{State}
@@ -38,11 +38,11 @@ module _ (name : List ℕ) (width : ℕ) (Text : List (List Bool) → List ℕ) 
       other_done name width Text (HaveRun workers planned clock latches before after clocks last (Err why)) (HaveResumed workers planned clock latches before after (Err why))
       (λ rows both. (both.0, tt)) shelf out shelf_after out_after (Err why) ran
 
-  -- the words alone
-  pub carried : (answer : Result (Unit {0}) RunFault) → Ran answer → Streams name width Text (HaveCarried workers planned clock latches before after) shelf out shelf_after out_after answer
+  -- the words, and how many rows there were
+  pub carried : (answer : Result (Unit {0}) RunFault) → Ran answer → Streams name width Text (λ rows. HaveCarried workers planned clock latches before after rows × HasClocks clocks answer rows) shelf out shelf_after out_after answer
   carried answer ran =
-      other_done name width Text (HaveRun workers planned clock latches before after clocks last answer) (HaveCarried workers planned clock latches before after)
-      (λ rows both. both.0) shelf out shelf_after out_after answer ran
+      other_done name width Text (HaveRun workers planned clock latches before after clocks last answer) (λ rows. HaveCarried workers planned clock latches before after rows × HasClocks clocks answer rows)
+      (λ rows both. (both.0, counted planned.ordered.flat latches clocks last answer rows both.1)) shelf out shelf_after out_after answer ran
 
   -- after a success there is a value for each latch
   pub latches_last : length latches ≡ latch_count planned.ordered.flat.cells → (answer : Result (Unit {0}) RunFault) → Ran answer → OnOk answer (length last ≡ latch_count planned.ordered.flat.cells)

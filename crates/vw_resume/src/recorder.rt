@@ -35,7 +35,7 @@ impl StateRecorder {
 }
 
 impl Recorder for StateRecorder {
-    ghost use Rattle.std.specs.Prelude.{◌+◌, length};
+    ghost use Rattle.std.specs.Prelude.{◌+◌, length, true};
     ghost use Rattle.vw_resume.specs.States.{state_text};
 
     ghost left = { λ recorder history. state_text (recorder.clocks + length history.outputs) history.last };
@@ -45,6 +45,8 @@ impl Recorder for StateRecorder {
     ghost latches = { λ recorder. recorder.latches };
 
     ghost clocks = { λ recorder. recorder.clocks };
+
+    ghost waits = { λ _. true };
 
     fn next_clock(&self) -> u64 {
         self.clocks

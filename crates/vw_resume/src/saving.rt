@@ -5,7 +5,7 @@ ghost use Rattle.vw_outside.specs.Told.{held};
 ghost use Rattle.vw_plan.specs.PlannedBoard.{planned_board};
 ghost use Rattle.vw_prog.specs.Scripts.{planned_of};
 ghost use Rattle.vw_rows.specs.Standing.{StandsIn};
-ghost use Rattle.vw_trace.specs.Streamed.{Streams};
+ghost use Rattle.vw_trace.specs.Streamed.{HasClocks, StopsSilently, Streams};
 ghost use Rattle.vw_batches.specs.Traffic.{HaveCarried};
 ghost use Rattle.vw_resume.specs.Saved.{saved_text};
 
@@ -44,9 +44,11 @@ fn save_board<T: Threads + Wait + Sync, S: Shelf, F: Fabric, G: BurstGate, O: Si
     ensures streams { let planned = planned_of board.old.job in
         let flat = planned.ordered.flat in
         Streams stimulus.old.name stimulus.old.width (saved_text unknown flat)
-        (HaveCarried workers planned 0 (start_values unknown flat.cells) (F.carried fabric.old)
-        (F.carried fabric.new))
+        (λ rows. HaveCarried workers planned 0 (start_values unknown flat.cells)
+        (F.carried fabric.old) (F.carried fabric.new) rows
+        × HasClocks stimulus.old.clocks result rows)
         (S.seen shelf.old) (O.seen out.old) (S.seen shelf.new) (O.seen out.new) result }
+    ensures silent { StopsSilently (O.seen out.old) (O.seen out.new) result }
     ensures done { OnOk result (stimulus.new.done ≡ stimulus.old.clocks) }
 {
     let mut latches = board.flat().start(alloc, unknown)?;
@@ -70,8 +72,10 @@ fn save_board<T: Threads + Wait + Sync, S: Shelf, F: Fabric, G: BurstGate, O: Si
 /// the text of the state after the last clock, and nothing else. Free latches start at `unknown`.
 ///
 /// As in any run, memory is taken for a batch of 256 clocks at a time, each link carries the words of the plan, where there
-/// are two workers or more, and it isn't proved that the call returns. No line of a trace is made. Where a read fails,
-/// nothing was written; where a write fails or memory runs out, a front of the text was appended.
+/// are two workers or more, and it isn't proved that the call returns. No line of a trace is made. Where the rows can't be
+/// read again, nothing was written; where a write fails or memory runs out, a front of the text was appended. Where nothing
+/// is told of the text of the stimulus, it may have changed since it was checked: then it may be found at fault, or the state
+/// is that after other rows with the same width, as many as were counted.
 pub fn save<T: Threads + Wait + Sync, S: Shelf, F: Fabric, G: BurstGate, O: Sink>(
     rt: &T,
     alloc: Global,
@@ -93,9 +97,11 @@ pub fn save<T: Threads + Wait + Sync, S: Shelf, F: Fabric, G: BurstGate, O: Sink
     ensures streams { let planned = planned_board checked.ordered checked.board checked.plan in
         let flat = checked.ordered.flat in
         Streams stimulus.old.name stimulus.old.width (saved_text unknown flat)
-        (HaveCarried workers planned 0 (start_values unknown flat.cells) (F.carried fabric.old)
-        (F.carried fabric.new))
+        (λ rows. HaveCarried workers planned 0 (start_values unknown flat.cells)
+        (F.carried fabric.old) (F.carried fabric.new) rows
+        × HasClocks stimulus.old.clocks result rows)
         (S.seen shelf.old) (O.seen out.old) (S.seen shelf.new) (O.seen out.new) result }
+    ensures silent { StopsSilently (O.seen out.old) (O.seen out.new) result }
     ensures done { OnOk result (stimulus.new.done ≡ stimulus.old.clocks) }
 {
     let mut board = RunningBoard::make(alloc, checked)?;

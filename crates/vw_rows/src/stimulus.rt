@@ -11,7 +11,7 @@ use std::alloc::Global;
 use vw_net::{Bits, Rows};
 use vw_outside::{Name, Shelf};
 
-/// A stimulus that was checked, and how far it was given. It is made by `check` alone. The text itself isn't kept.
+/// A stimulus that was checked, and how far it was given. `check` makes it. The text itself isn't kept.
 pub struct Stimulus {
     /// The name of the text.
     pub name: Name,

@@ -1,7 +1,9 @@
 //! Probes: which nets they find, where their bits stand, and what comes where one finds no net.
 use std::alloc::{AllocError, Global};
 use std::test::Fail;
-use vw_sample_calls::{End, SIM, words_end, words_end_so};
+use vw_sample_calls::{
+    Call, End, Fault, MOST, SIM, carried_out, is_status, words_end, words_end_so,
+};
 use vw_samples::{TOGGLE, TOGGLE_TEXTS, TWO_INVERTERS};
 
 #[test]
@@ -273,9 +275,16 @@ fn words_of_probes_are_checked(rt: HostRuntime) -> Result<(), Fail> {
     words_end(rt.alloc(), TOGGLE_TEXTS, TABLE)
 }
 
-/// The words of a `sim` with so many probes of the output, the last one of which is the word 3 more than this number.
-fn probed(alloc: Global, count: usize) -> Result<Vec<&'static str>, AllocError> {
-    let mut words = SIM.to_vec(alloc)?;
+/// The words of a simulation whose waveform is written.
+const WAVE: &[&str] = &["wave", "d", "s"];
+
+/// These three words with so many probes of the output, the last one of which is the word 3 more than this number.
+fn probed(
+    alloc: Global,
+    first: &[&'static str],
+    count: usize,
+) -> Result<Vec<&'static str>, AllocError> {
+    let mut words = first.to_vec(alloc)?;
     for _ in 0..count {
         words.push("probe=q")?;
     }
@@ -286,10 +295,25 @@ fn probed(alloc: Global, count: usize) -> Result<Vec<&'static str>, AllocError> 
 fn there_may_be_64_probes(rt: HostRuntime) -> Result<(), Fail> {
     let alloc = rt.alloc();
     let too_many = End::refused(2, "usage: word 68\n");
-    words_end_so(alloc, &probed(alloc, 65)?, TOGGLE_TEXTS, too_many)?;
+    words_end_so(alloc, &probed(alloc, SIM, 65)?, TOGGLE_TEXTS, too_many)?;
+    words_end_so(alloc, &probed(alloc, WAVE, 65)?, TOGGLE_TEXTS, too_many)?;
     let traced = End::done(
         "trace 2 1 64 1\n0 00000000000000000000000000000000000000000000000000000000000000000 0\nend 1 0\n",
     );
     let texts = &[("d", TOGGLE), ("s", "0\n")];
-    words_end_so(alloc, &probed(alloc, 64)?, texts, traced)
+    words_end_so(alloc, &probed(alloc, SIM, 64)?, texts, traced)?;
+    has_many_signals(alloc, texts)
+}
+
+/// Fails unless a wave with 64 probes is written.
+fn has_many_signals(alloc: Global, texts: &[(&str, &str)]) -> Result<(), Fail> {
+    let words = probed(alloc, WAVE, 64)?;
+    let call = Call {
+        words: &words,
+        texts,
+        most: MOST,
+        fault: Fault::None,
+    };
+    let ran = carried_out(alloc, &call)?;
+    is_status(ran.status, 0, "a wave with 64 probes")
 }

@@ -1,7 +1,9 @@
 //! The command `run`: a design on a board, by a plan of its own and by one that is given, has the trace of the design.
 use std::alloc::Global;
 use std::test::Fail;
-use vw_sample_calls::{Fault, SEVERAL, batches_are_joined, faults_end, is_stopped, words_end};
+use vw_sample_calls::{
+    Fault, SEVERAL, batches_are_joined, faults_end, is_stopped, line_of_read, words_end,
+};
 use vw_samples::{
     CHAIN, CUT_PLAN, FAR_CHAIN, FAR_PLAN, FIVE_GATES, FLIP, FLIP_PLAN, FLIP_TEXTS, FLIP_TRACE,
     FOUR_CELLS, FOUR_GATES, SLOW_TRIANGLE, SMALL_CHAIN, TOGGLE, TOGGLE_PLAN, TOGGLE_ROWS,
@@ -359,17 +361,24 @@ fn a_read_of_a_run_that_fails_has_the_line_of_its_file(rt: HostRuntime) -> Resul
 
 #[test]
 fn each_read_of_a_run_may_fail(rt: HostRuntime) -> Result<(), Fail> {
+    // of 78, 106 and 119 bytes 5 are read at a time, and one read finds each end; of the stimulus of 6 bytes the first read
+    // asks for one past the limit, three check the text, and two read its rows again
+    const STAGES: &[(u64, &str)] = &[
+        (17, "read fault: design\n"),
+        (40, "read fault: board\n"),
+        (65, "read fault: plan\n"),
+        (71, "read fault: stimulus\n"),
+    ];
     let mut stopped = 0u64;
     for number in 1u64..200 {
         let fault = Fault::Read(number);
-        if is_stopped(rt.alloc(), RUN_GIVEN, TOGGLE_TEXTS, fault, 7)? {
+        let line = line_of_read(STAGES, number);
+        if is_stopped(rt.alloc(), RUN_GIVEN, TOGGLE_TEXTS, fault, 7, line)? {
             break;
         }
         stopped = number;
     }
-    // the four texts have 309 bytes, of which 5 are read at a time, the stimulus of 6 twice
-    assert_eq!(rt; stopped > 63, true);
-    assert_eq!(rt; stopped < 80, true);
+    assert_eq!(rt; stopped, 71);
     Ok(())
 }
 
@@ -378,7 +387,14 @@ fn each_write_of_a_run_may_fail(rt: HostRuntime) -> Result<(), Fail> {
     let mut stopped = 0u64;
     for number in 1u64..60 {
         let fault = Fault::Write(number);
-        if is_stopped(rt.alloc(), RUN_GIVEN, TOGGLE_TEXTS, fault, 8)? {
+        if is_stopped(
+            rt.alloc(),
+            RUN_GIVEN,
+            TOGGLE_TEXTS,
+            fault,
+            8,
+            "write fault\n",
+        )? {
             break;
         }
         stopped = number;

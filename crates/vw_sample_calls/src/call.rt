@@ -113,9 +113,11 @@ pub fn files_of(alloc: Global, texts: &[(&str, &str)]) -> Result<Vec<Held>, Allo
     Ok(files)
 }
 
-/// A sink whose write with this number fails.
+/// A sink whose write with this number fails. It has room for 4,096 bytes.
 pub fn sink(alloc: Global, most: u32, write: u64) -> Result<MemSink, AllocError> {
-    Ok(MemSink::new(alloc, most.max(1), vec![in alloc; write]?))
+    let mut sink = MemSink::new(alloc, most.max(1), vec![in alloc; write]?);
+    sink.reserve(4096)?;
+    Ok(sink)
 }
 
 /// A shelf of these files whose read with this number fails.

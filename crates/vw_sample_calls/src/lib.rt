@@ -19,5 +19,5 @@ pub use ends::{
     has_ended, is_status, run_ends, stimuli_are_refused, words_end, words_end_so,
 };
 pub use large::{DONE, Large, REFUSED, large_designs_end};
-pub use streams::{batches_are_joined, is_stopped};
+pub use streams::{batches_are_joined, is_stopped, line_of_read};
 pub use threads::{all_end_on, carried_out_on, ends_on, words_carried, written_on};

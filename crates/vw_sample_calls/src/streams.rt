@@ -1,6 +1,6 @@
 //! Runs of the toggle over several batches, and over reads and writes that fail.
 use crate::call::{Call, Fault, MOST, carried_out};
-use crate::ends::is_status;
+use crate::ends::{are_found, is_status};
 use std::alloc::Global;
 use std::test::Fail;
 use vw_samples::TOGGLE_TRACE;
@@ -46,14 +46,25 @@ fn is_front(trace: &[u8]) -> Result<(), Fail> {
     Err("no front of the trace".into())
 }
 
+/// The line of the stage in which this read fails: of each stage its last read is given, in order. None behind the last.
+pub fn line_of_read<'x>(stages: &'x [(u64, &'x str)], number: u64) -> &'x str {
+    for (last, line) in stages {
+        if number <= *last {
+            return line;
+        }
+    }
+    ""
+}
+
 /// Whether a run of the toggle whose read or write with this number fails is carried out. It fails unless a front of the
-/// trace is written, and the run ends with this status where it isn't carried out.
+/// trace is written, and the run ends with this status and this line where it isn't carried out.
 pub fn is_stopped(
     alloc: Global,
     words: &[&str],
     texts: &[(&str, &str)],
     fault: Fault,
     status: u8,
+    line: &str,
 ) -> Result<bool, Fail> {
     let call = Call {
         words,
@@ -63,8 +74,10 @@ pub fn is_stopped(
     };
     let ran = carried_out(alloc, &call)?;
     is_front(ran.out.bytes())?;
-    if ran.status != 0 {
-        is_status(ran.status, status, "a fault")?;
+    if ran.status == 0 {
+        return Ok(true);
     }
-    Ok(ran.status == 0)
+    is_status(ran.status, status, "a fault")?;
+    are_found(ran.err.bytes(), line.as_bytes(), "the line of a fault")?;
+    Ok(false)
 }

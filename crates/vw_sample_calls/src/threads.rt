@@ -1,5 +1,5 @@
 //! Calls on a runtime, whose workers are threads, and what their links have carried.
-use crate::call::{Call, End, Fault, MOST, Ran, names_of, out_of, shelf_of};
+use crate::call::{Call, End, Fault, MOST, Ran, names_of, out_of, shelf_of, sink};
 use crate::ends::{has_ended, is_status};
 use std::alloc::{AllocError, Global};
 use std::marker::Sync;
@@ -7,7 +7,7 @@ use std::sync::Wait;
 use std::test::Fail;
 use std::thread::Threads;
 use vw_link::Links;
-use vw_outside::{BurstGate, MemSink, OpenGate};
+use vw_outside::{BurstGate, OpenGate};
 use vw_prog::Fabric;
 use vw_top::virtual_wires;
 
@@ -21,7 +21,7 @@ pub fn carried_out_on<R: Threads + Wait + Sync, G: BurstGate, F: Fabric>(
 ) -> Result<Ran, AllocError> {
     let mut shelf = shelf_of(alloc, call)?;
     let mut out = out_of(alloc, call)?;
-    let mut err = MemSink::new(alloc, 100, Vec::new(alloc));
+    let mut err = sink(alloc, MOST, 0)?;
     let words = names_of(alloc, call.words)?;
     let status = virtual_wires(
         rt, alloc, &words, &mut shelf, fabric, gate, &mut out, &mut err,

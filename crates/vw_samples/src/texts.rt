@@ -41,7 +41,7 @@ pub const TOGGLE_TEXTS: &[(&str, &str)] = &[
 ];
 
 /// A latch that is turned round at each clock.
-pub const FLIP: &str = ".model m\n.outputs q\n.names q d\n0 1\n.latch d q 0\n.end\n";
+pub const FLIP: &str = ".model m\n.outputs q\n.names q d\n0 1\n.latch d q 0\n";
 
 /// Its trace over four clocks.
 pub const FLIP_TRACE: &str = "trace 1 1 1\n0 0 0\n1 1 1\n2 0 0\n3 1 1\nend 4 0\n";
@@ -72,7 +72,7 @@ pub const FAR_CHAIN: &str =
 pub const FAR_PLAN: &str = "plan 1 2 1 4\nchips 2 2\nwire 1 0 2\nhop 2 1 0 0\nhop 1 0 0 3\nend\n";
 
 /// An `and` of two inputs.
-pub const AND: &str = ".model m\n.inputs a b\n.outputs y\n.names a b y\n11 1\n.end\n";
+pub const AND: &str = ".model m\n.inputs a b\n.outputs y\n.names a b y\n11 1\n";
 
 /// One chip of one cell, joined to the host by one pin each way.
 pub const ONE_CHIP: &str = "board 1\nchips 1\ncells 1\nsettle 0\npins 2\nlink 0 1 1\nlink 1 0 1\n";

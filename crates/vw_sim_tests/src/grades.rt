@@ -67,6 +67,28 @@ fn any_number_of_workers_write_the_grading(rt: HostRuntime) -> Result<(), Fail> 
     all_end_on(&rt, alloc, &GRADES, EMPTY, Fault::None, empty)
 }
 
+/// A latch that keeps its value: a stuck net shows where it is stuck at the other one.
+#[test]
+fn free_latches_of_a_grading_start_as_the_setting_says(rt: HostRuntime) -> Result<(), Fail> {
+    const FREE: &[(&str, &str)] = &[
+        ("d", ".model m\n.outputs q\n.latch q q 2\n"),
+        ("s", "hold 2\n"),
+    ];
+    const ZERO: [&[&str]; 2] = [
+        &["grade", "d", "s"],
+        &["grade", "d", "s", "workers=1", "unknown=0"],
+    ];
+    const ONE: [&[&str]; 2] = [
+        &["grade", "d", "s", "unknown=1"],
+        &["grade", "d", "s", "unknown=1", "workers=3"],
+    ];
+    let alloc = rt.alloc();
+    let zero = End::done("grade 1 2 1\nopen q 0\nend\n");
+    let one = End::done("grade 1 2 1\nopen q 1\nend\n");
+    all_end_on(&rt, alloc, &ZERO, FREE, Fault::None, zero)?;
+    all_end_on(&rt, alloc, &ONE, FREE, Fault::None, one)
+}
+
 #[test]
 fn what_stops_a_grading_is_named(rt: HostRuntime) -> Result<(), Fail> {
     const WIDE: &[(&str, &str)] = &[("d", TOGGLE), ("s", "11\n")];

@@ -17,6 +17,24 @@ const INSTANCES: &[Piece] = &[(1, "design 18: more than 65536 instances\n")];
 /// The message of designs whose models stand too deep.
 pub const DEPTH: &[Piece] = &[(1, "design 18: more than 64 depth\n")];
 
+/// Forty models, each but the last with two items that place the next one.
+const FORTY_MODELS: &str = "\
+.model m1\n.subckt m2\n.subckt m2\n.model m2\n.subckt m3\n.subckt m3\n.model m3\n.subckt m4\n.subckt m4\n\
+.model m4\n.subckt m5\n.subckt m5\n.model m5\n.subckt m6\n.subckt m6\n.model m6\n.subckt m7\n.subckt m7\n\
+.model m7\n.subckt m8\n.subckt m8\n.model m8\n.subckt m9\n.subckt m9\n.model m9\n.subckt m10\n.subckt m10\n\
+.model m10\n.subckt m11\n.subckt m11\n.model m11\n.subckt m12\n.subckt m12\n.model m12\n.subckt m13\n.subckt m13\n\
+.model m13\n.subckt m14\n.subckt m14\n.model m14\n.subckt m15\n.subckt m15\n.model m15\n.subckt m16\n.subckt m16\n\
+.model m16\n.subckt m17\n.subckt m17\n.model m17\n.subckt m18\n.subckt m18\n.model m18\n.subckt m19\n.subckt m19\n\
+.model m19\n.subckt m20\n.subckt m20\n.model m20\n.subckt m21\n.subckt m21\n.model m21\n.subckt m22\n.subckt m22\n\
+.model m22\n.subckt m23\n.subckt m23\n.model m23\n.subckt m24\n.subckt m24\n.model m24\n.subckt m25\n.subckt m25\n\
+.model m25\n.subckt m26\n.subckt m26\n.model m26\n.subckt m27\n.subckt m27\n.model m27\n.subckt m28\n.subckt m28\n\
+.model m28\n.subckt m29\n.subckt m29\n.model m29\n.subckt m30\n.subckt m30\n.model m30\n.subckt m31\n.subckt m31\n\
+.model m31\n.subckt m32\n.subckt m32\n.model m32\n.subckt m33\n.subckt m33\n.model m33\n.subckt m34\n.subckt m34\n\
+.model m34\n.subckt m35\n.subckt m35\n.model m35\n.subckt m36\n.subckt m36\n.model m36\n.subckt m37\n.subckt m37\n\
+.model m37\n.subckt m38\n.subckt m38\n.model m38\n.subckt m39\n.subckt m39\n.model m39\n.subckt m40\n.subckt m40\n\
+.model m40\n\
+";
+
 #[test]
 fn doubled_models_are_counted_and_not_placed(rt: HostRuntime) -> Result<(), Fail> {
     // the root and so many models; the instances are one less than 2 to the number of all models
@@ -36,6 +54,12 @@ fn doubled_models_are_counted_and_not_placed(rt: HostRuntime) -> Result<(), Fail
         Large {
             on: "40 models",
             design: &[(1, ".model m0\n"), (39, DOUBLED)],
+            err: INSTANCES,
+            ..REFUSED
+        },
+        Large {
+            on: "m1 to m40",
+            design: &[(1, FORTY_MODELS)],
             err: INSTANCES,
             ..REFUSED
         },

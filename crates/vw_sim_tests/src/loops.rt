@@ -18,7 +18,7 @@ fn gates_that_read_each_other_are_a_loop(rt: HostRuntime) -> Result<(), Fail> {
         ),
         // each listed gate reads the next one, and the first one stands first in the text
         (
-            ".model m\n.outputs a\n.names a b\n1 1\n.names b a\n1 1\n.end\n",
+            ".model m\n.outputs a\n.names a b\n1 1\n.names b a\n1 1\n",
             "design 25: loop b a\n",
         ),
         (

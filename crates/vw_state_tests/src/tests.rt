@@ -7,9 +7,9 @@ use vw_link::Links;
 use vw_outside::OpenGate;
 use vw_sample_calls::{
     Call, End, Fault, MOST, SEVERAL, SIM, all_end_on, are_found, carried_out_on, demonstrated,
-    ends_on, has_ended, words_carried, words_end, written_on,
+    ends_on, has_ended, line_of_read, words_carried, words_end, written_on,
 };
-use vw_samples::{TOGGLE, TOGGLE_PLAN, TRIANGLE};
+use vw_samples::{TOGGLE, TOGGLE_PLAN, TRIANGLE, spelled};
 
 mod cuts;
 mod rows;

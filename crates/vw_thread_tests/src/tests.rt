@@ -7,11 +7,12 @@ use std::thread::Threads;
 use vw_link::Links;
 use vw_outside::{BurstGate, OpenGate};
 use vw_sample_calls::{
-    Call, End, Fault, MOST, Ran, are_found, carried_out_on, has_ended, is_status, words_carried,
+    Call, End, Fault, MOST, Ran, are_found, carried_out_on, has_ended, is_status, line_of_read,
+    words_carried,
 };
 use vw_samples::{
     AND, FAR_CHAIN, FAR_PLAN, FIVE_GATES, FLIP, FLIP_TEXTS, FLIP_TRACE, FOUR_CELLS, FOUR_GATES,
-    TOGGLE, TOGGLE_PLAN, TOGGLE_ROWS, TOGGLE_TEXTS, TOGGLE_TRACE, TRIANGLE,
+    Piece, TOGGLE, TOGGLE_PLAN, TOGGLE_ROWS, TOGGLE_TEXTS, TOGGLE_TRACE, TRIANGLE, spelled,
 };
 
 mod files;

@@ -1,22 +1,28 @@
 -- What each status of `emit` says of its files.
-use Rattle.std.proofs.Common.{◌≡◌, ◌≢◌, ℕ, List, [], ◌∷◌, Option, refl, sym, ◌∙◌, ap, inl, inr, ⊎_elim, lit<, arith}
+use Rattle.std.proofs.Common.{◌≡◌, ◌≢◌, ◌⊎◌, ℕ, List, [], ◌∷◌, Option, refl, sym, ◌∙◌, ap, inl, inr, ⊎_elim, lit<, arith}
 use Rattle.vw_outside.specs.Told.{Told}
 use Rattle.vw_course.specs.Course.{Course, writing}
 use Rattle.vw_course.specs.Follows.{May}
 use Rattle.vw_course.specs.Endings.{IsCallOf}
-use Rattle.vw_course.specs.Places.{IsOneOf, Files, RefusesHere, IsToRefuse}
+use Rattle.vw_course.specs.Places.{IsOneOf, Files, RefusesHere, StandsAt, IsToWork, IsToRefuse}
 use Rattle.vw_course.proofs.EveryPlace.{IsUnbroken, passes_unbroken, no_break}
-use Rattle.vw_course.proofs.StandLaws.{call_refused}
+use Rattle.vw_course.proofs.StandLaws.{call_refused, call_settled}
 use Rattle.vw_course.proofs.StageLaws.{refusal_behind, refused_for}
+use Rattle.vw_net.specs.declared.ordered.Ordered.{Ordered}
+use Rattle.vw_plan.specs.declared.board.Board.{Board}
+use Rattle.vw_plan.specs.declared.plan.Plan.{Plan}
 use Rattle.vw_plan.specs.PlannedBoard.{planned_board}
 use Rattle.vw_boardtext.specs.Emitted.{FitsDesigns}
+use Rattle.vw_boardtext.proofs.Limits.{HasEmitFault, fits_or_not}
 use Rattle.vw_top.specs.declared.vocabulary.Reason.{Reason}
-use Rattle.vw_top.specs.Messages.{reason_status, vocabulary, Call}
+use Rattle.vw_top.specs.declared.vocabulary.Reason.TheVariants as reasons
+use Rattle.vw_top.specs.Messages.{reason_status, vocabulary, Call, CallWork}
 use Rattle.vw_top.specs.Kinds.{IsBadEmission}
 use Rattle.vw_top.specs.Commands.{emit_rest, emit_course}
-use Rattle.vw_top.specs.PlannedStatuses.{plan_status, other_status, HoldTexts, its_files}
+use Rattle.vw_top.specs.PlannedStatuses.{AreSpelled, plan_status, other_status, HoldTexts, its_files}
 use Rattle.vw_top.specs.EmittedBoards.{board_design, BoardsShow, DesignFits}
 use Rattle.vw_top.specs.EmitStatuses.{IsTooLarge, EmitStatuses}
+use Rattle.vw_top.specs.WrittenStatuses.{IsWritten}
 use Rattle.vw_top.proofs.EmittedBoards.{writes_board}
 use Rattle.vw_top.proofs.PlannedLaws.{IsBehindPlan, among_all, plan_differs, plan_few, other_differs, every_planned, behind_planned, held_spelled, to_rest}
 use Rattle.vw_top.proofs.WrittenLaws.{IsWriter, not_written, written_table}
@@ -61,6 +67,14 @@ module _ (design board : List ℕ) (given : Option (List ℕ)) (call : Call) whe
       (λ (more : Unit {0} × FitsDesigns (planned_board later.0 later.1 later.2) × ⊥). absurd more.2)
       later.4
 
+  -- a planned board that fits is written, and another is refused
+  settles : (d b p : List ℕ) (ordered : Ordered) (on : Board) (plan : Plan) → AreSpelled [] given d b p ordered on plan → FitsDesigns (planned_board ordered on plan) ⊎ HasEmitFault (planned_board ordered on plan)
+      → StandsAt told all (λ place. IsToWork told all (IsWritten [] design board given board_design DesignFits d b p) place ⊎ IsToRefuse (IsTooLarge given d b p) place) (emit_rest ordered on plan)
+  settles d b p ordered on plan are (inl fits) =
+      inr ((tt, fits), λ done so. inl (tt, record { ordered = ordered; its_board = on; plan = plan; are = are; fits = fits; is = refl }))
+  settles d b p ordered on plan are (inr (fault, some, is)) =
+      inl (inr ((reasons.Emit fault, (fault, refl, some, is)), λ reason bad. record { ordered = ordered; board = on; plan = plan; are = are; bad = bad }))
+
   pub emit_table : BoardsShow → IsCallOf course call → EmitStatuses design board given call
   emit_table show is =
       let none = not_written [] design board given board_design DesignFits 10 emit_rest writer call is in
@@ -76,6 +90,11 @@ module _ (design board : List ℕ) (given : Option (List ℕ)) (call : Call) whe
             call_refused vocabulary all call (IsTooLarge given d b p) course is
             (to_rest [] design board given emit_rest call d b p hold all (inl refl) (inr (inl refl)) (IsToRefuse (IsTooLarge given d b p)) (among_all [] design board given) have
             (λ ordered on plan are. inl (large ordered on plan are, λ reason bad. record { ordered = ordered; board = on; plan = plan; are = are; bad = bad })));
+        settled = λ d b p hold have.
+            let What : CallWork → Type 0 = IsWritten [] design board given board_design DesignFits d b p in
+            call_settled vocabulary all call What (IsTooLarge given d b p) course is
+            (to_rest [] design board given emit_rest call d b p hold all (inl refl) (inr (inl refl)) (λ place. IsToWork told all What place ⊎ IsToRefuse (IsTooLarge given d b p) place) (among_all [] design board given) have
+            (λ ordered on plan are. settles d b p ordered on plan are (fits_or_not (planned_board ordered on plan))));
         others = (
           none 2 (lit< tt) (inl (lit< tt)) (λ is. omega (arith, is)) (λ is. omega (arith, is)) (plan_few given).0 (λ is. omega (arith, is)),
           none 5 (lit< tt) (inl (lit< tt)) (λ is. omega (arith, is)) (λ is. omega (arith, is)) (plan_differs given).3 (λ is. omega (arith, is)),

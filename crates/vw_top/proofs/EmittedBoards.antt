@@ -40,9 +40,11 @@ writes_board show design board given d b p call done =
     record {
       of = of;
       design_is = its.are.on.netlist.is.design_of;
+      ordered = its.ordered;
+      board = its.its_board;
       plan = its.plan;
-      plan_is = record { ordered = its.ordered; board = its.its_board; are = its.are };
-      text = board_design its.ordered its.its_board its.plan;
+      are = its.are;
+      fits = its.fits;
       shows = show given d b p of its.ordered its.its_board its.plan its.are.on.netlist.is.design_of its.are its.fits;
       wrote = ap (λ (o : SeenOutside vocabulary.Word). o.out) done.leaves ∙ ap (λ (w : CallWork). appended call.before.out w.text) its.is;
     }

@@ -10,7 +10,7 @@ use Rattle.vw_course.specs.Course.{Course}
 use Rattle.vw_course.specs.Follows.{May}
 use Rattle.vw_course.specs.Endings.{IsCallOf}
 use Rattle.vw_course.specs.Places.{IsOneOf, Files, RefusesHere, StandsAt, IsToRefuse}
-use Rattle.vw_course.specs.Statuses.{Holds, IsDone}
+use Rattle.vw_course.specs.Statuses.{Holds, IsDone, IsRefusedFor}
 use Rattle.vw_course.proofs.CallTable.{call_table}
 use Rattle.vw_course.proofs.Inductions.{its_text, of_held}
 use Rattle.vw_course.proofs.StandLaws.{call_refused}
@@ -36,7 +36,7 @@ use Rattle.vw_top.specs.Commands.{Scripts, RowCheck, check_by, trace_course, wit
 use Rattle.vw_top.specs.PlannedStatuses.{AreSpelled, HavePlan, plan_status, other_status, with_given, HoldTexts, MaySpell}
 use Rattle.vw_top.specs.TracedStatuses.{Subject, IsTrace, TracedStatuses}
 use Rattle.vw_top.specs.TracedStatuses as traced
-use Rattle.vw_top.specs.ResumeStatuses.{ResumeTexts, Resumption, AreResumed, trace_from_state, IsNoState, resumptions, up_to_state, its_files, MayResume, UsesFrom, IsReady, AreTooMany, CarriesFrom, ResumeStatuses}
+use Rattle.vw_top.specs.ResumeStatuses.{ResumeTexts, Resumption, AreResumed, trace_from_state, IsNoState, resumptions, up_to_state, its_files, MayResume, UsesFrom, IsReady, AreTooMany, MayBeTooMany, CarriesFrom, ResumeStatuses}
 use Rattle.vw_top.proofs.OnBoards.{netlist_same}
 use Rattle.vw_top.proofs.TracedLaws.{ComesToRows, reads_rows, unbroken_rows, never_rows, held_rows, barred_rows, same_rows, traced_table}
 use Rattle.vw_top.proofs.PlannedLaws.{IsAmong, IsBehindPlan, among_more, given_among, behind_given, plan_differs, plan_few, other_differs, every_planned, never_planned, barred_planned, behind_planned, work_planned, to_rest, planned_table}
@@ -230,11 +230,11 @@ module _ (design board : List ℕ) (given : Option (List ℕ)) (state stimulus :
   -- ---- the state
 
   -- a refusal with its status is for the text of the state, or for the clocks
-  module _ (texts : ResumeTexts) (s : List ℕ) (hold : subject.Hold call texts) (held_s : Holds call stimulus s) where
-    abbrev Why : Reason → Type 0
-    Why reason = IsNoState texts reason ⊎ AreTooMany design board given state stimulus workers texts s reason
+  module _ (texts : ResumeTexts) (hold : subject.Hold call texts) where
+    abbrev WhyOver : Reason → Type 0
+    WhyOver reason = IsNoState texts reason ⊎ MayBeTooMany design board given state stimulus workers told texts reason
 
-    state_why : (reason : Reason) → reason_status reason ≡ 11 → May told (RefusesHere reason) course → Why reason
+    state_why : (reason : Reason) → reason_status reason ≡ 11 → May told (RefusesHere reason) course → WhyOver reason
     state_why reason same may =
         let plan = behind_planned [] design board given rest call 11 (RefusesHere reason) (refusal_behind told 11 reason same) (λ is. omega (arith, is)) (λ is. omega (arith, is)) (plan_few given).2 may in
         let netlist = spells texts hold plan.0 plan.1 plan.2 plan.3 in
@@ -243,16 +243,37 @@ module _ (design board : List ℕ) (given : Option (List ℕ)) (state stimulus :
         (λ (more : (one : State) × IsStateOf (latch_count plan.0.flat.cells) texts.state one × May told (RefusesHere reason) (goes_on plan.0 plan.1 plan.2 one)).
         let later = stage_behind told 11 (RefusesHere reason) (refusal_behind told 11 reason same) (rows_kind plan.0.flat.inputs) stimulus
         (with_check (check_by (clocks_fit more.0.clock)) (trace_course stimulus plan.0.flat.inputs (resumed_trace plan.0.flat more.0.clock more.0.latches) (words plan.0 plan.1 plan.2 more.0))) (λ is. omega (arith, is)) more.2 in
-        inr (record {
-          its = record { ordered = plan.0; state = more.0 };
-          rows = later.2;
-          are = record {
-            spells = record { netlist = netlist; state_is = more.1 };
-            rows_are = subst (λ (t : List ℕ). IsRowsOf plan.0.flat.inputs t later.2) (its_text (told stimulus) later.0 s held_s later.1) later.3;
-          };
-          bad = ⊎_elim (λ (bad : AreTooManyClocks more.0.clock later.2 reason). bad) (λ (none : (done : Unit {0}) × (more.0.clock + length later.2 ≤ MOST_CLOCKS) × ⊥). absurd none.2) later.4;
-        }))
+        inr (
+          later.0,
+          later.1,
+          record {
+            its = record { ordered = plan.0; state = more.0 };
+            rows = later.2;
+            are = record { spells = record { netlist = netlist; state_is = more.1 }; rows_are = later.3 };
+            bad = ⊎_elim (λ (bad : AreTooManyClocks more.0.clock later.2 reason). bad) (λ (none : (done : Unit {0}) × (more.0.clock + length later.2 ≤ MOST_CLOCKS) × ⊥). absurd none.2) later.4;
+          },
+        ))
         (refused_past told (state_kind (latch_count plan.0.flat.cells)) state (goes_on plan.0 plan.1 plan.2) texts.state hold.1 reason plan.4)
+
+    no_state_over : IsCallOf course call → call.status ≡ 11 → IsRefusedFor vocabulary WhyOver call
+    no_state_over is = refused_for course call is 11 WhyOver state_why
+        (no_break told 11 course (every_planned [] design board given rest all (IsUnbroken 11) (passes_unbroken vocabulary all 11) (inl refl) (inr (inl refl)) at_plan (whole 11 (λ five. omega (arith, five)))))
+        (lit< tt) (inr (lit< tt, lit< tt))
+
+    -- a stimulus that is held may be no other text
+    module _ (s : List ℕ) (held_s : Holds call stimulus s) where
+      abbrev Why : Reason → Type 0
+      Why reason = IsNoState texts reason ⊎ AreTooMany design board given state stimulus workers texts s reason
+
+      held_why : (reason : Reason) → WhyOver reason → Why reason
+      held_why reason (inl none) = inl none
+      held_why reason (inr (other, of, many)) =
+          inr (subst (λ (t : List ℕ). AreTooMany design board given state stimulus workers texts t reason) (its_text (told stimulus) other s held_s of) many)
+
+      no_state_held : IsCallOf course call → call.status ≡ 11 → IsRefusedFor vocabulary Why call
+      no_state_held is status =
+          let refused = no_state_over is status in
+          record { reason = refused.reason; why = held_why refused.reason refused.why; status = refused.status; leaves = refused.leaves; message = refused.message }
 
   -- a text that spells no state of the design is refused
   state_bad : (texts : ResumeTexts) (b p : List ℕ) (reason : Reason) → HoldTexts [] design board given call texts.design b p → Holds call state texts.state → HavePlan [] given texts.design b p → IsNoState texts reason
@@ -307,9 +328,8 @@ module _ (design board : List ℕ) (given : Option (List ℕ)) (state stimulus :
       let plan = plan_few given in
       record {
         planned = planned_table [] (omega arith) design board rest call given behind is;
-        no_state = λ texts s hold held_s. refused_for course call is 11 (Why texts s hold held_s) (state_why texts s hold held_s)
-            (no_break told 11 course (every_planned [] design board given rest all (IsUnbroken 11) (passes_unbroken vocabulary all 11) (inl refl) (inr (inl refl)) at_plan (whole 11 (λ five. omega (arith, five)))))
-            (lit< tt) (inr (lit< tt, lit< tt));
+        no_state = λ texts s hold held_s. no_state_held texts hold s held_s is;
+        no_state_over = λ texts hold. no_state_over texts hold is;
         no_state_comes = λ texts b p reason hold held_t have none.
             call_refused vocabulary first call (IsNoState texts) course is (state_bad texts b p reason hold held_t have none);
         too_many_come = λ texts b p s its rows hold held_t held_s have are many.

@@ -1,7 +1,7 @@
 -- What each status of `emit` says of its files.
 use Rattle.std.specs.Prelude.{◌≡◌, ◌≢◌, ◌⊎◌, ℕ, List, [], Option}
 use Rattle.vw_net.specs.declared.ordered.Ordered.{Ordered}
-use Rattle.vw_course.specs.Statuses.{IsRefusedFor, IsStopped}
+use Rattle.vw_course.specs.Statuses.{IsCarriedOut, IsRefusedFor, IsStopped}
 use Rattle.vw_plan.specs.declared.board.Board.{Board}
 use Rattle.vw_plan.specs.declared.plan.Plan.{Plan}
 use Rattle.vw_plan.specs.PlannedBoard.{planned_board}
@@ -10,7 +10,7 @@ use Rattle.vw_top.specs.Messages.{vocabulary, Call}
 use Rattle.vw_top.specs.Kinds.{IsBadEmission}
 use Rattle.vw_top.specs.PlannedStatuses.{AreSpelled, HavePlan, other_status, HoldTexts, its_files}
 use Rattle.vw_top.specs.EmittedBoards.{DesignFits, WritesBoard, board_design}
-use Rattle.vw_top.specs.WrittenStatuses.{WrittenStatuses}
+use Rattle.vw_top.specs.WrittenStatuses.{IsWritten, WrittenStatuses}
 
 -- a planned board of these texts is above a limit of designs, for this reason
 pub record IsTooLarge (given : Option (List ℕ)) (d b p : List ℕ) (reason : Reason) : Type 0 where
@@ -36,5 +36,9 @@ module _ (design board : List ℕ) (given : Option (List ℕ)) where
         → IsRefusedFor vocabulary (IsTooLarge given d b p) call
     pub too_large_comes : (d b p : List ℕ) → HoldTexts [] design board given call d b p → HavePlan [] given d b p → AllTooLarge given d b p
         → IsRefusedFor vocabulary (IsTooLarge given d b p) call ⊎ IsStopped vocabulary (its_files [] design board given) call
+    -- whether it fits or not, it is written or refused, unless the outside stops the call
+    pub settled : (d b p : List ℕ) → HoldTexts [] design board given call d b p → HavePlan [] given d b p
+        → IsCarriedOut vocabulary (IsWritten [] design board given board_design DesignFits d b p) (its_files [] design board given) call
+        ⊎ IsRefusedFor vocabulary (IsTooLarge given d b p) call
     -- these aren't statuses of it
     pub others : (call.status ≢ 2) × (call.status ≢ 5) × (call.status ≢ other_status given) × (call.status ≢ 11)

@@ -10,7 +10,7 @@ use Rattle.vw_plan.specs.PlannedBoard.{planned_board}
 use Rattle.vw_boardtext.specs.Emitted.{FitsDesigns, emitted_text}
 use Rattle.vw_emit.specs.EmittedBoard.{IsBoardOfDesign}
 use Rattle.vw_top.specs.Messages.{Call}
-use Rattle.vw_top.specs.PlannedStatuses.{AreSpelled, IsTheirPlan}
+use Rattle.vw_top.specs.PlannedStatuses.{AreSpelled}
 
 -- what is written of a planned board: the design that it is, where this is within the limits of designs
 abbrev pub board_design : Ordered → Board → Plan → List ℕ
@@ -27,12 +27,14 @@ BoardsShow = (given : Option (List ℕ)) (d b p : List ℕ) (of : Design) (order
     → IsDesignOf d of → AreSpelled [] given d b p ordered board plan → DesignFits ordered board plan
     → IsBoardOfDesign plan.period of (board_design ordered board plan)
 
--- out has, behind what it had before, exactly a text that spells such a design
+-- out has, behind what it had before, exactly the text of one planned board of these texts, and it spells such a design
 pub record WritesBoard (given : Option (List ℕ)) (d b p : List ℕ) (call : Call) : Type 0 where
   pub of : Design
   pub design_is : IsDesignOf d of
+  pub ordered : Ordered
+  pub board : Board
   pub plan : Plan
-  pub plan_is : IsTheirPlan [] given d b p plan
-  pub text : List ℕ
-  pub shows : IsBoardOfDesign plan.period of text
-  pub wrote : call.after.out ≡ appended call.before.out text
+  pub are : AreSpelled [] given d b p ordered board plan
+  pub fits : DesignFits ordered board plan
+  pub shows : IsBoardOfDesign plan.period of (board_design ordered board plan)
+  pub wrote : call.after.out ≡ appended call.before.out (board_design ordered board plan)

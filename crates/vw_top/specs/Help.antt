@@ -25,7 +25,8 @@ help_text = lines_text (
     codes "  save DESIGN BOARD STIM      runs a design on a board, and writes its state" ∷
     codes "      [plan=FILE] [workers=N] [unknown=0|1]" ∷
     codes "  resume DESIGN BOARD STATE STIM" ∷
-    codes "      [plan=FILE] [workers=N] goes on from a state, and writes the trace" ∷
+    codes "                              goes on from a state, and writes the trace" ∷
+    codes "      [plan=FILE] [workers=N] [unknown=0|1]" ∷
     codes "  emit DESIGN BOARD           writes a planned board as a design in BLIF" ∷
     codes "      [plan=FILE]" ∷
     codes "  demo CELLS                  runs a generated design of 1 to 20000 cells on" ∷

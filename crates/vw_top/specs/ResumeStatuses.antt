@@ -96,6 +96,10 @@ module _ (design board : List ℕ) (given : Option (List ℕ)) (state stimulus :
     pub are : AreSpelled resumptions texts s its rows
     pub bad : AreTooManyClocks its.state.clock rows reason
 
+  -- they are over some text that the name of the stimulus may have, for this reason
+  abbrev pub MayBeTooMany : (List ℕ → Told) → ResumeTexts → Reason → Type 0
+  MayBeTooMany told texts reason = (s : List ℕ) × IsTextOf (told stimulus) s × AreTooMany texts s reason
+
   -- each link has carried, behind what it had before, exactly its words of such a planned board, from the state on over all
   -- rows of the stimulus
   pub record CarriesFrom (texts : ResumeTexts) (s : List ℕ) (call : Call) : Type 0 where
@@ -112,9 +116,12 @@ module _ (design board : List ℕ) (given : Option (List ℕ)) (state stimulus :
   pub record ResumeStatuses (call : Call) : Type 0 where
     -- 1, 3, and 4 or 6, and a design, a board or a plan that is absent
     pub planned : PlannedStatuses [] design board given call
-    -- 11: exactly where the text of the state spells none of the design, or the clocks are too many together
+    -- 11: exactly where the text of the state spells none of the design, or the clocks are too many together: over the
+    -- stimulus that is held, and else over one that it may be
     pub no_state : (texts : ResumeTexts) (s : List ℕ) → resumptions.Hold call texts → Holds call stimulus s → call.status ≡ 11
         → IsRefusedFor vocabulary (λ reason. IsNoState texts reason ⊎ AreTooMany texts s reason) call
+    pub no_state_over : (texts : ResumeTexts) → resumptions.Hold call texts → call.status ≡ 11
+        → IsRefusedFor vocabulary (λ reason. IsNoState texts reason ⊎ MayBeTooMany call.before.shelf.told texts reason) call
     pub no_state_comes : (texts : ResumeTexts) (b p : List ℕ) (reason : Reason) → HoldTexts [] design board given call texts.design b p → Holds call state texts.state
         → HavePlan [] given texts.design b p → IsNoState texts reason
         → IsRefusedFor vocabulary (IsNoState texts) call ⊎ IsStopped vocabulary up_to_state call

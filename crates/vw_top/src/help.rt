@@ -36,7 +36,8 @@ usage: vwires COMMAND FILE.. [SETTING..]\n\
 \x20 save DESIGN BOARD STIM      runs a design on a board, and writes its state\n\
 \x20     [plan=FILE] [workers=N] [unknown=0|1]\n\
 \x20 resume DESIGN BOARD STATE STIM\n\
-\x20     [plan=FILE] [workers=N] goes on from a state, and writes the trace\n\
+\x20                             goes on from a state, and writes the trace\n\
+\x20     [plan=FILE] [workers=N] [unknown=0|1]\n\
 \x20 emit DESIGN BOARD           writes a planned board as a design in BLIF\n\
 \x20     [plan=FILE]\n\
 \x20 demo CELLS                  runs a generated design of 1 to 20000 cells on\n\

@@ -2,3 +2,4 @@ pub mod Clocks
 pub mod Streaming
 pub mod StreamedTexts
 pub mod RecordedBatches
+pub mod Silence

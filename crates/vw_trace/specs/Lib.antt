@@ -1,5 +1,4 @@
 pub mod FlatTrace
-pub mod Engines
 pub mod RunFaults
 pub mod Messages
 pub mod Streamed

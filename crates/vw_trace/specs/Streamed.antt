@@ -49,3 +49,11 @@ HasClocks clocks answer rows = OnOk answer (length rows ≡ clocks)
 -- after a success there are as many rows as this, and these are the latch values after them
 abbrev pub EndsAt : Flat → List Bool → ℕ → List Bool → Result (Unit {0}) RunFault → List (List Bool) → Type 0
 EndsAt flat start clocks last answer rows = OnOk answer ((length rows ≡ clocks) × (last ≡ state_after flat start rows))
+
+-- where the rows couldn't be read again, out is as it was
+abbrev pub StopsSilently : SeenSink → SeenSink → Result (Unit {0}) RunFault → Type 0
+StopsSilently out out_after (Ok done) = Unit {0}
+StopsSilently out out_after (Err ReadFault) = out_after ≡ out
+StopsSilently out out_after (Err (Stimulus fault)) = out_after ≡ out
+StopsSilently out out_after (Err WriteFault) = Unit {0}
+StopsSilently out out_after (Err NoMemory) = Unit {0}

@@ -5,7 +5,6 @@ ghost use Rattle.vw_net.specs.Cells.{latch_count};
 ghost use Rattle.vw_net.specs.History.{flat_history, state_after};
 ghost use Rattle.vw_outside.specs.Told.{held};
 ghost use Rattle.vw_rows.specs.Standing.{StandsIn};
-ghost use Rattle.vw_trace.specs.Engines.{IsCount};
 ghost use Rattle.vw_trace.specs.Streamed.{EndsAt, Streams};
 ghost use Rattle.vw_trace.specs.Steps.Recording.{RecordsClocks, RecordsOut};
 
@@ -33,9 +32,10 @@ fn record_batch<E: Engine, R: Recorder, O: Sink>(
     requires latches { length state.old ≡ latch_count (E.netlist engine.old).cells }
     requires its_outputs { R.outputs recorder.old ≡ length (E.netlist engine.old).outputs }
     requires its_latches { R.latches recorder.old ≡ latch_count (E.netlist engine.old).cells }
+    requires unstarted { E.done engine.old ≡ R.clocks recorder.old }
     requires few { R.clocks recorder.old + length rows < 2 ^ 32 }
     ensures netlist { E.netlist engine.new ≡ E.netlist engine.old }
-    ensures done { OnOk result (IsCount (E.done engine.new) (R.clocks recorder.old + length rows)) }
+    ensures done { OnOk result (E.done engine.new ≡ R.clocks recorder.old + length rows) }
     ensures records { RecordsOut (E.netlist engine.old) rows
         (record { clock = R.clocks recorder.old; state = state.old; left = R.left recorder.old })
         (R.left recorder.new) (O.seen out.old) (O.seen out.new) result }
@@ -45,7 +45,7 @@ fn record_batch<E: Engine, R: Recorder, O: Sink>(
     ensures state { OnOk result (state.new ≡ state_after (E.netlist engine.old) state.old rows) }
 {
     histories_join();
-    let batch = engine.work_out(alloc, recorder.next_clock(), rows, state)?;
+    let batch = engine.work_out(alloc, rows, state)?;
     let lines = recorder.lines(alloc, &batch)?;
     put_text(Ok(lines), out)
 }
@@ -67,15 +67,14 @@ fn record_clocks<E: Engine, R: Recorder, S: Shelf, O: Sink>(
     requires latches { length state.old ≡ latch_count (E.netlist engine.old).cells }
     requires its_outputs { R.outputs recorder.old ≡ length (E.netlist engine.old).outputs }
     requires its_latches { R.latches recorder.old ≡ latch_count (E.netlist engine.old).cells }
-    requires unstarted { IsCount (E.done engine.old) (R.clocks recorder.old) }
+    requires unstarted { E.done engine.old ≡ R.clocks recorder.old }
     requires few { R.clocks recorder.old + stimulus.old.clocks < 2 ^ 32 }
     ensures records { RecordsClocks stimulus.old (E.netlist engine.old)
         (record { clock = R.clocks recorder.old; state = state.old; left = R.left recorder.old })
         state.new (R.left recorder.new) (λ rows. Unit {0})
         (S.seen shelf.old) (O.seen out.old) (S.seen shelf.new) (O.seen out.new) result }
     ensures done { OnOk result (stimulus.new.done ≡ stimulus.old.clocks) }
-    ensures all { OnOk result (IsCount (E.done engine.new)
-        (R.clocks recorder.old + stimulus.old.clocks)) }
+    ensures all { OnOk result (E.done engine.new ≡ R.clocks recorder.old + stimulus.old.clocks) }
     ensures ends { OnOk result (length state.new ≡ R.latches recorder.new) }
 {
     histories_join();
@@ -94,7 +93,7 @@ fn record_clocks<E: Engine, R: Recorder, S: Shelf, O: Sink>(
 /// lines before its first clock. Where a read or a write fails or memory runs out, a front of the text was appended, and
 /// nothing is known of `state` and of the recorder. Where nothing is told of the text of the stimulus, it may have changed
 /// since it was checked: then it may be found at fault, or what is written is of other rows with the same width, as many as
-/// were counted. Where the engine numbers its clocks, it has done them all after a success.
+/// were counted. After a success the engine has worked out each clock once.
 pub fn record_run<E: Engine, R: Recorder, S: Shelf, O: Sink>(
     alloc: Global,
     engine: &mut E,
@@ -111,15 +110,14 @@ pub fn record_run<E: Engine, R: Recorder, S: Shelf, O: Sink>(
     requires latches { length state.old ≡ latch_count (E.netlist engine.old).cells }
     requires its_outputs { R.outputs recorder.old ≡ length (E.netlist engine.old).outputs }
     requires its_latches { R.latches recorder.old ≡ latch_count (E.netlist engine.old).cells }
-    requires unstarted { IsCount (E.done engine.old) (R.clocks recorder.old) }
+    requires unstarted { E.done engine.old ≡ R.clocks recorder.old }
     requires few { R.clocks recorder.old + stimulus.old.clocks < 2 ^ 32 }
     ensures streams { Streams stimulus.old.name stimulus.old.width
         (λ rows. R.left recorder.old (flat_history (E.netlist engine.old) state.old rows))
         (EndsAt (E.netlist engine.old) state.old stimulus.old.clocks state.new result)
         (S.seen shelf.old) (O.seen out.old) (S.seen shelf.new) (O.seen out.new) result }
     ensures done { OnOk result (stimulus.new.done ≡ stimulus.old.clocks) }
-    ensures all { OnOk result (IsCount (E.done engine.new)
-        (R.clocks recorder.old + stimulus.old.clocks)) }
+    ensures all { OnOk result (E.done engine.new ≡ R.clocks recorder.old + stimulus.old.clocks) }
 {
     record_clocks(alloc, engine, recorder, stimulus, state, shelf, out)?;
     let rest = recorder.end(alloc, state);

@@ -1,5 +1,6 @@
 //! What writes down the clocks of a netlist, so that one loop serves every text over them.
-ghost use Rattle.std.specs.Prelude.{◌≡◌, ◌<◌, ◌+◌, ◌^◌, ◌++◌, ℕ, List, length, IfOk, OnOk};
+ghost use Rattle.std.specs.Prelude.{◌≡◌, ◌<◌, ◌+◌, ◌^◌, ◌++◌, ℕ, Bool, List, [], length, IfOk, OnOk};
+ghost use Rattle.std.specs.Bool.{OnTrue};
 ghost use Rattle.std.specs.List.{All};
 ghost use Rattle.vw_net.specs.History.{History};
 ghost use Rattle.vw_trace.specs.Recorded.{clocks_before, no_more_clocks};
@@ -22,6 +23,9 @@ pub trait Recorder {
     /// The number of the next clock, counted from 0.
     ghost clocks: { Self → ℕ };
 
+    /// Whether it writes nothing before its end.
+    ghost waits: { Self → Bool };
+
     /// The number of the next clock, counted from 0.
     fn next_clock(&self) -> u64
         ensures { result ≡ clocks self.now };
@@ -35,6 +39,8 @@ pub trait Recorder {
         ensures text { IfOk result (λ text. (more : History)
             → left self.old (clocks_before batch.now.outputs batch.now.states more)
             ≡ text.items ++ left self.new more) }
+        ensures silent { OnTrue (waits self.old) (IfOk result (λ text. text.items ≡ [])) }
+        ensures waits { OnOk result (waits self.new ≡ waits self.old) }
         ensures clocks { OnOk result (clocks self.new
             ≡ clocks self.old + length batch.now.outputs) }
         ensures outputs { OnOk result (outputs self.new ≡ outputs self.old) }

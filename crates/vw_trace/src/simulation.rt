@@ -7,10 +7,11 @@ use std::alloc::{AllocError, Global};
 use vw_net::{Bits, Flat, Ordered, Rows};
 use vw_sim::Simulator;
 
-/// A simulator, with a value for each net of its netlist.
+/// A simulator, with a value for each net of its netlist, and how many clocks it has worked out.
 pub struct Simulation<'a> {
     pub simulator: Simulator<'a>,
     pub values: Bits,
+    pub done: u64,
     ghost nets: { length values ≡ simulator.flat.inputs + length simulator.flat.cells },
 }
 
@@ -19,6 +20,7 @@ impl Drop for Simulation<'_> {
         let Simulation {
             simulator: _,
             values: _,
+            done: _,
         } = self;
     }
 }
@@ -32,22 +34,26 @@ fn blank_values(alloc: Global, flat: &Flat) -> Result<Bits, AllocError>
 }
 
 impl<'a> Simulation<'a> {
-    /// The simulation of a netlist with an order. It takes memory for the simulator, and for each net.
+    /// The simulation of a netlist with an order, before its first clock. It takes memory for the simulator, and for each
+    /// net.
     pub fn make(alloc: Global, ordered: &'a Ordered) -> Result<Self, AllocError>
-        ensures { IfOk result (λ simulation. simulation.simulator ≡ ordered.now) }
+        ensures simulator { IfOk result (λ simulation. simulation.simulator ≡ ordered.now) }
+        ensures unstarted { IfOk result (λ simulation. simulation.done ≡ 0) }
     {
         let simulator = Simulator::make(alloc, ordered)?;
         let values = blank_values(alloc, simulator.flat())?;
-        Ok(Simulation { simulator, values })
+        Ok(Simulation {
+            simulator,
+            values,
+            done: 0,
+        })
     }
 }
 
 impl Engine for Simulation<'_> {
-    ghost use Rattle.std.specs.Prelude.{None};
-
     ghost netlist = { λ simulation. simulation.simulator.flat };
 
-    ghost done = { λ _. None };
+    ghost done = { λ simulation. simulation.done };
 
     fn flat(&self) -> &Flat {
         self.simulator.flat()
@@ -56,10 +62,11 @@ impl Engine for Simulation<'_> {
     fn work_out(
         &mut self,
         alloc: Global,
-        _first: u64,
         rows: Rows,
         state: &mut Bits,
     ) -> Result<Batch, AllocError> {
-        run_batch(alloc, &self.simulator, &rows, state, &mut self.values)
+        let batch = run_batch(alloc, &self.simulator, &rows, state, &mut self.values)?;
+        self.done += rows.len() as u64;
+        Ok(batch)
     }
 }

@@ -5,7 +5,6 @@ ghost use Rattle.vw_outside.specs.Told.{held};
 ghost use Rattle.vw_outside.specs.Writes.{WritesOut};
 ghost use Rattle.vw_rows.specs.Standing.{StandsIn};
 ghost use Rattle.vw_rows.specs.Trace.{head_text};
-ghost use Rattle.vw_trace.specs.Engines.{IsCount};
 ghost use Rattle.vw_trace.specs.FlatTrace.{trace_from, flat_trace};
 ghost use Rattle.vw_trace.specs.Streamed.{HasClocks, Streams};
 
@@ -55,13 +54,13 @@ fn write_lines<E: Engine, S: Shelf, O: Sink>(
     requires stands { (text : List ℕ) → (S.seen shelf.old).told stimulus.old.name ≡ held text
         → StandsIn stimulus.old text }
     requires latches { length state.old ≡ latch_count (E.netlist engine.old).cells }
-    requires unstarted { IsCount (E.done engine.old) 0 }
+    requires unstarted { E.done engine.old ≡ 0 }
     requires probes { probes ≤ length (E.netlist engine.old).outputs }
     ensures streams { Streams stimulus.old.name stimulus.old.width
         (trace_from probes 0 state.old (E.netlist engine.old)) (HasClocks stimulus.old.clocks result)
         (S.seen shelf.old) (O.seen out.old) (S.seen shelf.new) (O.seen out.new) result }
     ensures done { OnOk result (stimulus.new.done ≡ stimulus.old.clocks) }
-    ensures all { OnOk result (IsCount (E.done engine.new) stimulus.old.clocks) }
+    ensures all { OnOk result (E.done engine.new ≡ stimulus.old.clocks) }
 {
     write_head(alloc, engine.flat(), probes, state, out)?;
     let mut recorder = TraceRecorder::make(engine.flat(), 0, state);
@@ -73,8 +72,8 @@ fn write_lines<E: Engine, S: Shelf, O: Sink>(
 /// again in batches of 256 clocks, and memory is taken for one batch at a time: all but that of its lines before its first
 /// clock. Where a read or a write fails or memory runs out, a front of the trace was appended. Where nothing is told of the
 /// text of the stimulus, it may have changed since it was checked: then it may be found at fault, or the trace is that of
-/// other rows with the same width, as many as were counted. Where the engine numbers its clocks, it begins with the first,
-/// and has done them all after a success.
+/// other rows with the same width, as many as were counted. The engine begins with its first clock, and after a success it
+/// has worked out each once.
 pub fn write_trace_by<E: Engine, S: Shelf, O: Sink>(
     alloc: Global,
     engine: &mut E,
@@ -88,14 +87,14 @@ pub fn write_trace_by<E: Engine, S: Shelf, O: Sink>(
     requires fresh { stimulus.old.done ≡ 0 }
     requires stands { (text : List ℕ) → (S.seen shelf.old).told stimulus.old.name ≡ held text
         → StandsIn stimulus.old text }
-    requires unstarted { IsCount (E.done engine.old) 0 }
+    requires unstarted { E.done engine.old ≡ 0 }
     requires probes { probes ≤ length (E.netlist engine.old).outputs }
     ensures streams { Streams stimulus.old.name stimulus.old.width
         (flat_trace probes unknown (E.netlist engine.old))
         (HasClocks stimulus.old.clocks result)
         (S.seen shelf.old) (O.seen out.old) (S.seen shelf.new) (O.seen out.new) result }
     ensures done { OnOk result (stimulus.new.done ≡ stimulus.old.clocks) }
-    ensures all { OnOk result (IsCount (E.done engine.new) stimulus.old.clocks) }
+    ensures all { OnOk result (E.done engine.new ≡ stimulus.old.clocks) }
 {
     let mut state = engine.flat().start(alloc, unknown)?;
     write_lines(alloc, engine, probes, stimulus, &mut state, shelf, out)

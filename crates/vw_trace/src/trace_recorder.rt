@@ -37,6 +37,7 @@ impl TraceRecorder {
 }
 
 impl Recorder for TraceRecorder {
+    ghost use Rattle.std.specs.Prelude.{false};
     ghost use Rattle.vw_rows.specs.Trace.{trace_lines_from};
 
     ghost left = { λ recorder. trace_lines_from recorder.clocks };
@@ -46,6 +47,8 @@ impl Recorder for TraceRecorder {
     ghost latches = { λ recorder. recorder.latches };
 
     ghost clocks = { λ recorder. recorder.clocks };
+
+    ghost waits = { λ _. false };
 
     fn next_clock(&self) -> u64 {
         self.clocks

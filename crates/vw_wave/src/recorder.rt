@@ -115,6 +115,7 @@ impl WaveRecorder {
 }
 
 impl Recorder for WaveRecorder {
+    ghost use Rattle.std.specs.Prelude.{false};
     ghost use Rattle.vw_wave.specs.FlatWave.{wave_left};
 
     ghost left = { λ recorder. wave_left recorder.wave };
@@ -124,6 +125,8 @@ impl Recorder for WaveRecorder {
     ghost latches = { λ recorder. recorder.latches };
 
     ghost clocks = { λ recorder. recorder.wave.clocks };
+
+    ghost waits = { λ _. false };
 
     fn next_clock(&self) -> u64 {
         self.wave.clocks()

@@ -4,8 +4,7 @@ ghost use Rattle.vw_net.specs.Cells.{latch_count};
 ghost use Rattle.vw_outside.specs.Told.{held};
 ghost use Rattle.vw_outside.specs.Writes.{WritesOut};
 ghost use Rattle.vw_rows.specs.Standing.{StandsIn};
-ghost use Rattle.vw_trace.specs.Engines.{IsCount};
-ghost use Rattle.vw_trace.specs.Streamed.{Streams};
+ghost use Rattle.vw_trace.specs.Streamed.{HasClocks, Streams};
 ghost use Rattle.vw_text.specs.Physical.{lines_text};
 ghost use Rattle.vw_vcd.specs.Lines.{lines_of_head};
 ghost use Rattle.vw_wave.specs.FlatWave.{flat_wave, wave_from};
@@ -48,14 +47,14 @@ fn write_signals<E: Engine, S: Shelf, O: Sink>(
     requires stands { (text : List ℕ) → (S.seen shelf.old).told stimulus.old.name ≡ held text
         → StandsIn stimulus.old text }
     requires latches { length state.old ≡ latch_count (E.netlist engine.old).cells }
-    requires unstarted { IsCount (E.done engine.old) 0 }
+    requires unstarted { E.done engine.old ≡ 0 }
     requires names { length names.now ≡ length (E.netlist engine.old).outputs
         + latch_count (E.netlist engine.old).cells }
     ensures streams { Streams stimulus.old.name stimulus.old.width
-        (wave_from names.now state.old (E.netlist engine.old)) (λ rows. Unit {0})
+        (wave_from names.now state.old (E.netlist engine.old)) (HasClocks stimulus.old.clocks result)
         (S.seen shelf.old) (O.seen out.old) (S.seen shelf.new) (O.seen out.new) result }
     ensures done { OnOk result (stimulus.new.done ≡ stimulus.old.clocks) }
-    ensures all { OnOk result (IsCount (E.done engine.new) stimulus.old.clocks) }
+    ensures all { OnOk result (E.done engine.new ≡ stimulus.old.clocks) }
 {
     let mut recorder = WaveRecorder::make(alloc, engine.flat(), state)?;
     write_head(alloc, engine.flat(), names, out)?;
@@ -67,7 +66,7 @@ fn write_signals<E: Engine, S: Shelf, O: Sink>(
 /// latches start at `unknown`. The stimulus is read again in batches of 256 clocks, and memory is taken for one batch at a
 /// time: a clock takes none but for its lines. Where a read or a write fails or memory runs out, a front of the wave was
 /// appended. Where nothing is told of the text of the stimulus, it may have changed since it was checked: then it may be
-/// found at fault, or the wave is that of other rows with the same width.
+/// found at fault, or the wave is that of other rows with the same width, as many as were counted.
 pub fn write_wave_by<E: Engine, S: Shelf, O: Sink>(
     alloc: Global,
     engine: &mut E,
@@ -81,14 +80,14 @@ pub fn write_wave_by<E: Engine, S: Shelf, O: Sink>(
     requires fresh { stimulus.old.done ≡ 0 }
     requires stands { (text : List ℕ) → (S.seen shelf.old).told stimulus.old.name ≡ held text
         → StandsIn stimulus.old text }
-    requires unstarted { IsCount (E.done engine.old) 0 }
+    requires unstarted { E.done engine.old ≡ 0 }
     requires names { length names.now ≡ length (E.netlist engine.old).outputs
         + latch_count (E.netlist engine.old).cells }
     ensures streams { Streams stimulus.old.name stimulus.old.width
-        (flat_wave names.now unknown (E.netlist engine.old)) (λ rows. Unit {0})
+        (flat_wave names.now unknown (E.netlist engine.old)) (HasClocks stimulus.old.clocks result)
         (S.seen shelf.old) (O.seen out.old) (S.seen shelf.new) (O.seen out.new) result }
     ensures done { OnOk result (stimulus.new.done ≡ stimulus.old.clocks) }
-    ensures all { OnOk result (IsCount (E.done engine.new) stimulus.old.clocks) }
+    ensures all { OnOk result (E.done engine.new ≡ stimulus.old.clocks) }
 {
     let mut state = engine.flat().start(alloc, unknown)?;
     write_signals(alloc, engine, names, stimulus, &mut state, shelf, out)
@@ -113,7 +112,7 @@ pub fn write_wave<S: Shelf, O: Sink>(
     requires names { length names.now ≡ length ordered.now.flat.outputs
         + latch_count ordered.now.flat.cells }
     ensures streams { Streams stimulus.old.name stimulus.old.width
-        (flat_wave names.now unknown ordered.now.flat) (λ rows. Unit {0})
+        (flat_wave names.now unknown ordered.now.flat) (HasClocks stimulus.old.clocks result)
         (S.seen shelf.old) (O.seen out.old) (S.seen shelf.new) (O.seen out.new) result }
     ensures done { OnOk result (stimulus.new.done ≡ stimulus.old.clocks) }
 {

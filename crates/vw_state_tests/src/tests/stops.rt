@@ -88,16 +88,61 @@ fn faults_are_those_of_the_file_that_is_read(rt: HostRuntime) -> Result<(), Fail
         (6, "read fault: state\n"),
         (7, "read fault: stimulus\n"),
         (8, "read fault: stimulus\n"),
+        (9, "read fault: stimulus\n"),
     ];
     let alloc = rt.alloc();
     for (number, line) in READS {
         let wanted = End::refused(7, line);
         all_end_on(&rt, alloc, &OWN, TEXTS, Fault::Read(*number), wanted)?;
     }
+    // the rows are read again, and the first line is written
+    let again = End {
+        status: 7,
+        out: "trace 1 1 1\n",
+        err: "read fault: stimulus\n",
+    };
+    all_end_on(&rt, alloc, &OWN, TEXTS, Fault::Read(10), again)?;
+    all_end_on(
+        &rt,
+        alloc,
+        &OWN,
+        TEXTS,
+        Fault::Read(11),
+        End::done(LATER_TRACE),
+    )?;
     let wanted = End::refused(8, "write fault\n");
     all_end_on(&rt, alloc, &RESUME, TEXTS, Fault::Write(1), wanted)?;
     const SAVE: [&[&str]; 1] = [&["save", "d", "b", "s"]];
     all_end_on(&rt, alloc, &SAVE, TEXTS, Fault::Write(1), wanted)
+}
+
+/// The toggle on the triangle with these rows.
+fn over_rows<'x>(rows: &'x str) -> [(&'x str, &'x str); 3] {
+    [("d", TOGGLE), ("b", TRIANGLE), ("s", rows)]
+}
+
+/// Two reads of the design, two of the board and three that check the stimulus; the last three read its 513 rows again, and
+/// nothing is written before the last clock.
+#[test]
+fn nothing_is_saved_before_the_last_clock(rt: HostRuntime) -> Result<(), Fail> {
+    const SAVE: [&[&str]; 2] = [
+        &["save", "d", "b", "s", "workers=1"],
+        &["save", "d", "b", "s", "workers=3"],
+    ];
+    const STAGES: &[(u64, &str)] = &[
+        (2, "read fault: design\n"),
+        (4, "read fault: board\n"),
+        (10, "read fault: stimulus\n"),
+    ];
+    let alloc = rt.alloc();
+    let rows = spelled(alloc, &[(513, "1\n")])?;
+    let texts = over_rows(rows.as_str());
+    for number in 1..11u64 {
+        let wanted = End::refused(7, line_of_read(STAGES, number));
+        all_end_on(&rt, alloc, &SAVE, &texts, Fault::Read(number), wanted)?;
+    }
+    let saved = End::done("state 1 513 1 1\n");
+    all_end_on(&rt, alloc, &SAVE, &texts, Fault::Read(11), saved)
 }
 
 #[test]

@@ -17,14 +17,18 @@ fn are_fronts<R: Abort>(
     Ok(())
 }
 
-/// The status of a run of the toggle with three workers and this fault.
+const THREE_WORKERS: &[&str] = &["run", "d", "b", "s", "plan=p", "workers=3"];
+
+/// The status of a call over the toggle with this fault. Its message is this line, where one is given.
 fn status_of<R: Threads + Wait + Abort + Copy + Send + Sync>(
     rt: &R,
     alloc: Global,
+    words: &[&str],
     fault: Fault,
-) -> Result<u8, AllocError> {
+    line: Option<&str>,
+) -> Result<u8, Fail> {
     let call = Call {
-        words: &["run", "d", "b", "s", "plan=p", "workers=3"],
+        words,
         texts: TOGGLE_TEXTS,
         most: 10,
         fault,
@@ -32,15 +36,19 @@ fn status_of<R: Threads + Wait + Abort + Copy + Send + Sync>(
     let mut links = Links::new(*rt, true);
     let ended = carried_out_on(rt, alloc, &call, &OpenGate::new(), &mut links)?;
     are_fronts(rt, alloc, &ended, &links)?;
+    if let Some(line) = line {
+        are_found(ended.err.bytes(), line.as_bytes(), "the line of a fault")?;
+    }
     Ok(ended.status)
 }
 
-/// Asserts that a run ends with this status where one of the first so many reads or writes fails, and that there are no more.
+/// Asserts that a run with three workers ends with this status where one of its reads or writes fails, with the line of its
+/// stage, and that there are no more of them.
 fn each_stops<R: Threads + Wait + Abort + Copy + Send + Sync>(
     rt: &R,
     alloc: Global,
     are_reads: bool,
-    count: u64,
+    stages: &[(u64, &str)],
     status: u8,
 ) -> Result<(), Fail> {
     for number in 1..100u64 {
@@ -49,8 +57,9 @@ fn each_stops<R: Threads + Wait + Abort + Copy + Send + Sync>(
         } else {
             Fault::Write(number)
         };
-        let found = status_of(rt, alloc, fault)?;
-        let wanted = if number <= count { status } else { 0 };
+        let line = line_of_read(stages, number);
+        let found = status_of(rt, alloc, THREE_WORKERS, fault, Some(line))?;
+        let wanted = if line.is_empty() { 0 } else { status };
         is_status(found, wanted, "a fault")?;
     }
     Ok(())
@@ -61,20 +70,29 @@ fn each_stops<R: Threads + Wait + Abort + Copy + Send + Sync>(
 /// one reads its rows again.
 #[test]
 fn each_read_may_fail(rt: HostRuntime) -> Result<(), Fail> {
-    each_stops(&rt, rt.alloc(), true, 38, 7)
+    const STAGES: &[(u64, &str)] = &[
+        (9, "read fault: design\n"),
+        (21, "read fault: board\n"),
+        (34, "read fault: plan\n"),
+        (38, "read fault: stimulus\n"),
+    ];
+    each_stops(&rt, rt.alloc(), true, STAGES, 7)
 }
 
 /// The first line has two writes of at most ten bytes, the lines of the three clocks have two, and the last line has one.
 #[test]
 fn each_write_may_fail(rt: HostRuntime) -> Result<(), Fail> {
-    each_stops(&rt, rt.alloc(), false, 5, 8)
+    each_stops(&rt, rt.alloc(), false, &[(5, "write fault\n")], 8)
 }
 
-/// With memory enough, a run with three workers ends with 0. Where an allocation fails, it ends with 9, or with 7 or 8 where it
-/// was one of the shelf or of out, and leaves fronts; whoever runs this test makes them fail.
+/// With memory enough, a simulation ends with 0, and so does a run with three workers. Where an allocation fails, they end
+/// with 9 and leave fronts, since neither the shelf nor out takes any; whoever runs this test makes them fail.
 #[test]
 fn memory_may_be_wanting(rt: HostRuntime) -> Result<(), Fail> {
-    let status = status_of(&rt, rt.alloc(), Fault::None)?;
-    assert!(rt; status == 0 || status > 6);
+    const CALLS: &[&[&str]] = &[&["sim", "d", "s"], THREE_WORKERS];
+    for words in CALLS {
+        let status = status_of(&rt, rt.alloc(), words, Fault::None, None)?;
+        assert!(&rt; status == 0 || status == 9);
+    }
     Ok(())
 }

@@ -50,6 +50,123 @@ fn groups_work_at_the_same_time(rt: HostRuntime) -> Result<(), Fail> {
     Ok(())
 }
 
+/// A gate that holds each group until all of three have come, or for ten million turns.
+#[derive(Drop)]
+struct HoldsAll {
+    /// A bit for each group that has come.
+    come: AtomicU64,
+    /// Whether one of them didn't come in time.
+    given_up: AtomicBool,
+}
+
+impl BurstGate for HoldsAll {
+    fn enter(&self, worker: u32) {
+        let group = 1u64 << (worker % 64);
+        self.come.fetch_or(group, Ordering::SeqCst);
+        for _ in 0..10_000_000u32 {
+            if self.come.load(Ordering::SeqCst) == 0b111 {
+                return;
+            }
+            spin_loop();
+        }
+        self.given_up.store(true, Ordering::SeqCst);
+    }
+}
+
+/// Three groups on fewer than three threads would never come together.
+#[test]
+fn three_groups_wait_for_each_other(rt: HostRuntime) -> Result<(), Fail> {
+    let call = Call {
+        words: &["run", "d", "b", "s", "plan=p", "workers=3"],
+        texts: TOGGLE_TEXTS,
+        most: MOST,
+        fault: Fault::None,
+    };
+    let gate = HoldsAll {
+        come: AtomicU64::new(0),
+        given_up: AtomicBool::new(false),
+    };
+    let mut links = Links::new(rt, true);
+    let ended = carried_out_on(&rt, rt.alloc(), &call, &gate, &mut links)?;
+    has_ended(&ended, "a gate", End::done(TOGGLE_TRACE))?;
+    assert!(rt; !gate.given_up.load(Ordering::SeqCst));
+    Ok(())
+}
+
+/// A gate that counts how often each of three groups comes. It holds the host for a million turns when that comes first, so
+/// that the first round comes to little.
+#[derive(Drop)]
+struct Counts {
+    /// Twenty bits for each group.
+    come: AtomicU64,
+}
+
+impl BurstGate for Counts {
+    fn enter(&self, worker: u32) {
+        let group = worker % 3;
+        let before = self.come.fetch_add(1u64 << (20 * group), Ordering::SeqCst);
+        if group == 0 && before % (1 << 20) == 0 {
+            for _ in 0..1_000_000u32 {
+                spin_loop();
+            }
+        }
+    }
+}
+
+/// The numbers of a gate that counts.
+fn counts_of(gate: &Counts) -> [u64; 3] {
+    let come = gate.come.load(Ordering::SeqCst);
+    [come % (1 << 20), (come >> 20) % (1 << 20), come >> 40]
+}
+
+/// A chain of gates over two chips with room for these, and 256 rows.
+fn long_chain<'x>(design: &'x str) -> [(&'x str, &'x str); 3] {
+    [
+        ("d", design),
+        (
+            "b",
+            "board 1\nchips 2\ncells 4000\nsettle 0\npins 4\nlink 0 1 1\nlink 0 2 1\nlink 1 0 1\nlink 1 2 1\nlink 2 0 1\nlink 2 1 1\n",
+        ),
+        ("s", "hold 256\n"),
+    ]
+}
+
+/// How often each group comes to its gate in a run of a chain of 8,000 gates, over one batch.
+fn rounds_of<R: Threads + Wait + Copy + Send + Sync>(
+    rt: &R,
+    alloc: Global,
+) -> Result<[u64; 3], Fail> {
+    const CHAIN_OF_GATES: &[Piece] = &[
+        (1, ".model m\n.inputs n0\n.outputs n8000\n"),
+        (8000, ".names n# n+\n1 1\n"),
+    ];
+    let design = spelled(alloc, CHAIN_OF_GATES)?;
+    let texts = long_chain(design.as_str());
+    let call = Call {
+        words: &["run", "d", "b", "s", "workers=3"],
+        texts: &texts,
+        most: 65_536,
+        fault: Fault::None,
+    };
+    let gate = Counts {
+        come: AtomicU64::new(0),
+    };
+    let mut links = Links::new(*rt, false);
+    let ended = carried_out_on(rt, alloc, &call, &gate, &mut links)?;
+    is_status(ended.status, 0, "a long chain")?;
+    Ok(counts_of(&gate))
+}
+
+/// One batch has several rounds where it is long and its first rounds aren't worth their threads, and before each of its
+/// bursts each group comes to the gate.
+#[test]
+fn groups_come_to_the_gate_in_each_round(rt: HostRuntime) -> Result<(), Fail> {
+    let [host, one, other] = rounds_of(&rt, rt.alloc())?;
+    assert!(&rt; 2 <= host);
+    assert_eq!(&rt; (one, other), (host, host));
+    Ok(())
+}
+
 /// A gate that lets all through, and keeps which groups have come.
 #[derive(Drop)]
 struct Seen {

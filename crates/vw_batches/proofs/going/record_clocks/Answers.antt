@@ -1,4 +1,4 @@
-use Rattle.std.proofs.Common.{◌≡◌, ◌∙◌, ℕ, List, Bool, length, take, drop, Ok, Err, sym, ap, subst, refl, arith}
+use Rattle.std.proofs.Common.{◌≡◌, ◌+◌, ◌∙◌, ℕ, List, Bool, length, take, drop, Ok, Err, sym, ap, subst, refl, arith}
 use Rattle.std.specs.List.{All}
 use Rattle.std.proofs.lemmas.Result.{err_from_is_err_and}
 use Rattle.vw_net.specs.declared.flat.Flat.{Flat}
@@ -11,6 +11,7 @@ use Rattle.vw_plan.specs.declared.checked.Checked.{Checked}
 use Rattle.vw_prog.specs.Scripts.{planned_of}
 use Rattle.vw_trace.specs.Steps.Recording.{Point, RecordsOut}
 use Rattle.vw_trace.proofs.Streaming.{begins, stands_then, unread, unwritten_lines, further, all_given}
+use Rattle.vw_trace.proofs.Silence.{always, silent_further, stops_unread, stops_unwritten}
 use Rattle.vw_batches.specs.Traffic.{HaveCarried}
 use Rattle.vw_batches.proofs.JoinedTraffic.{after_no_rows, after_further_rows}
 use Rattle.vw_batches.proofs.going.record_clocks.Given.{Over}
@@ -20,8 +21,11 @@ use Rattle.vw_batches.proofs.going.record_clocks.Goals.{In_ok-rows, After-loop-a
 pub loop-alloc-init : goal.loop-alloc-init
 loop-alloc-init g c = record {
   fabric = refl;
+  done = c.requires.unstarted;
   workers = refl;
   checked = refl;
+  waits = refl;
+  silent = always (g.R.Recorder.waits c.args.recorder.now) (g.O.Sink.seen c.args.out.now ≡ g.O.Sink.seen c.args.out.now) refl;
   its_outputs = refl;
   its_latches = refl;
   underway = begins c.args.stimulus.now (c.args.crewed.now.board.now.job.checked.ordered.flat)
@@ -94,6 +98,9 @@ record_batch-requires-clause-few g c κs within =
     let so_far = c.loop-alloc.invariant.underway in
     omega (arith, c.in_ok-rows.ensures.gave.done, c.in_ok-rows.ensures.gave.clocks, so_far.clock_is, so_far.count, so_far.clocks, c.next_batch.new.self.some_left, c.requires.few)
 
+pub record_batch-requires-clause-unstarted : goal.record_batch-requires-clause-unstarted
+record_batch-requires-clause-unstarted g c κs within = c.loop-alloc.invariant.done
+
 pub returns-in_err-record_batch-clause-records : goal.returns-in_err-record_batch-clause-records
 returns-in_err-record_batch-clause-records g c =
     let flat = c.args.crewed.now.board.now.job.checked.ordered.flat in
@@ -137,8 +144,12 @@ loop-alloc-preserved g c =
     let there : Point = record { clock = g.R.Recorder.clocks c.record_batch.new.recorder; state = c.record_batch.new.state; left = g.R.Recorder.left c.record_batch.new.recorder } in
     record {
       fabric = recorded.fabric ∙ c.loop-alloc.invariant.fabric;
+      done = recorded.done ∙ sym recorded.clocks;
       workers = recorded.workers ∙ c.loop-alloc.invariant.workers;
       checked = recorded.checked ∙ c.loop-alloc.invariant.checked;
+      waits = recorded.waits ∙ c.loop-alloc.invariant.waits;
+      silent = silent_further (g.R.Recorder.waits c.args.recorder.now) (g.R.Recorder.waits c.loop-alloc.recorder) c.loop-alloc.invariant.waits
+          (g.O.Sink.seen c.args.out.now) (g.O.Sink.seen c.loop-alloc.out) (g.O.Sink.seen c.record_batch.new.out) c.loop-alloc.invariant.silent recorded.silent;
       its_outputs = recorded.its_outputs ∙ c.loop-alloc.invariant.its_outputs;
       its_latches = recorded.its_latches ∙ c.loop-alloc.invariant.its_latches;
       underway = further c.args.stimulus.now flat (c.histories_join.ensures flat)
@@ -176,6 +187,28 @@ returns-clause-records g c =
 
 pub returns-clause-done : goal.returns-clause-done
 returns-clause-done g c = all_done g (goal.at.returns-clause-done g c).After-loop-alloc
+
+pub returns-clause-all : goal.returns-clause-all
+returns-clause-all g c =
+    let so_far = c.loop-alloc.invariant.underway in
+    let all = all_done g (goal.at.returns-clause-all g c).After-loop-alloc in
+    let place : g.R.Recorder.clocks c.loop-alloc.recorder ≡ g.R.Recorder.clocks c.args.recorder.now + c.args.stimulus.now.clocks = omega (arith, so_far.clock_is, so_far.count, all) in
+    c.loop-alloc.invariant.done ∙ place
+
+pub returns-in_err-rows-clause-silent : goal.returns-in_err-rows-clause-silent
+returns-in_err-rows-clause-silent g c =
+    let p = err_from_is_err_and c.from_residual.result c.from_residual.ensures.1 in
+    rw (p.1, p.2)
+    (stops_unread (g.R.Recorder.waits c.args.recorder.now) (g.O.Sink.seen c.args.out.now) (g.O.Sink.seen c.loop-alloc.out) c.in_err-rows.field-0.0 c.loop-alloc.invariant.silent)
+
+pub returns-in_err-record_batch-clause-silent : goal.returns-in_err-record_batch-clause-silent
+returns-in_err-record_batch-clause-silent g c =
+    let p = err_from_is_err_and c.from_residual-in_err-record_batch.result c.from_residual-in_err-record_batch.ensures.1 in
+    rw (p.1, p.2)
+    (stops_unwritten (g.R.Recorder.waits c.args.recorder.now) (g.O.Sink.seen c.args.out.now) (g.O.Sink.seen c.record_batch.new.out) c.in_err-record_batch.field-0.0)
+
+pub returns-clause-silent : goal.returns-clause-silent
+returns-clause-silent g c = always (g.R.Recorder.waits c.args.recorder.now) (Unit {0}) tt
 
 pub returns-clause-ends : goal.returns-clause-ends
 returns-clause-ends g c =

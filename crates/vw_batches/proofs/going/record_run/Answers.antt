@@ -2,6 +2,7 @@ use Rattle.std.proofs.lemmas.Result.{err_from_is_err_and}
 use Rattle.vw_trace.specs.Recorded.{no_more_clocks}
 use Rattle.vw_prog.specs.Scripts.{planned_of}
 use Rattle.vw_trace.proofs.StreamedTexts.{no_clocks, no_end, all_recorded}
+use Rattle.vw_trace.proofs.Silence.{always, stops_unwritten}
 use Rattle.vw_batches.specs.Traffic.{HaveCarried}
 use Rattle.vw_batches.proofs.going.record_run.Goals as goal
 
@@ -54,3 +55,12 @@ returns-clause-streams g c =
     all_recorded stimulus flat (record { clock = g.R.Recorder.clocks recorder; state = c.args.state.now; left = g.R.Recorder.left recorder }) (HaveCarried c.args.crewed.now.workers (planned_of c.args.crewed.now.board.now.job) (g.R.Recorder.clocks c.args.recorder.now) c.args.state.now (g.F.Fabric.carried c.args.crewed.now.fabric.now) (g.F.Fabric.carried c.record_clocks.new.crewed.fabric.now)) shelf out
     last left_after shelf_after (g.O.Sink.seen c.record_clocks.new.out) (g.O.Sink.seen c.put_text.new.out) c.in_ok-record_clocks.ensures.records
     (c.in_ok-put_text.ensures (left_after (no_more_clocks last)) c.end-rest.ensures)
+
+pub returns-in_err-put_text-clause-silent : goal.returns-in_err-put_text-clause-silent
+returns-in_err-put_text-clause-silent g c =
+    let p = err_from_is_err_and c.from_residual-in_err-put_text.result c.from_residual-in_err-put_text.ensures.1 in
+    rw (p.1, p.2)
+    (stops_unwritten (g.R.Recorder.waits c.args.recorder.now) (g.O.Sink.seen c.args.out.now) (g.O.Sink.seen c.put_text.new.out) c.in_err-put_text.field-0.0)
+
+pub returns-clause-silent : goal.returns-clause-silent
+returns-clause-silent g c = always (g.R.Recorder.waits c.args.recorder.now) (Unit {0}) tt

@@ -5,7 +5,7 @@ use Rattle.vw_course.specs.Goes.{MovedFrom}
 use Rattle.vw_plan.specs.PlannedBoard.{planned_board}
 use Rattle.vw_resume.specs.Saved.{saved_text}
 use Rattle.vw_top.specs.Commands.{board_scripts, netlist_state, no_check}
-use Rattle.vw_top.proofs.StreamedTraces.{goes_unchecked, goes_streaming, stands_held, over_links}
+use Rattle.vw_top.proofs.StreamedTraces.{goes_unchecked, goes_streaming, stands_held, links_alone, over_links}
 use Rattle.vw_top.proofs.LinkTraffic.{parts_from, goes_together}
 use Rattle.vw_top.proofs.save.save_checked.Goals as goal
 
@@ -37,4 +37,4 @@ returns-clause-goes g c =
     (λ several. omega (arith, c.min.ensures, c.max-workers.ensures, several)) (λ several. omega (arith, c.min.ensures, c.max-workers.ensures, several))
     (goes_streaming g.S.Shelf.seen g.O.Sink.seen Moved c.args.stimulus.now ordered.flat.inputs no_check (saved_text c.args.unknown ordered.flat) (board_scripts workers c.args.unknown planned) c.args.outside.now mid (record { shelf = refl; out = refl }) refl
     (parts_from planned 0 (start_values c.args.unknown ordered.flat.cells) workers) _ c.in_ok-rows.rows c.save-saved.result (record { shelf = refl; out = refl }) c.in_ok-rows.ensures.judges c.in_ok-rows.ensures.starts (λ all counted. tt)
-    (λ links links_after moved. over_links (board_scripts workers c.args.unknown planned) links links_after moved c.save-saved.ensures.streams)))
+    (λ links links_after moved. over_links (board_scripts workers c.args.unknown planned) links links_after moved (links_alone c.save-saved.ensures.streams))))

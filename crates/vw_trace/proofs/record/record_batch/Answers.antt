@@ -23,6 +23,13 @@ lines-requires-clause-few g c =
     let count = output_count (g.E.Engine.netlist c.args.engine.now) c.args.state.now c.args.rows c.in_ok-batch.batch.outputs c.in_ok-batch.batch.states c.in_ok-batch.ensures.outputs c.in_ok-batch.ensures.states in
     omega (arith, count, c.requires.few)
 
+-- no clock was worked out, and nothing was written
+pub returns-in_err-batch-clause-records : goal.returns-in_err-batch-clause-records
+returns-in_err-batch-clause-records g c =
+    let p = err_from_is_err_and c.from_residual.result c.from_residual.ensures.1 in
+    rw (p.1, p.2)
+    (no_lines (g.E.Engine.netlist c.args.engine.now) c.args.rows (g.R.Recorder.clocks c.args.recorder.now) c.args.state.now (g.R.Recorder.left c.args.recorder.now) (g.R.Recorder.left c.args.recorder.now) (g.O.Sink.seen c.args.out.now))
+
 pub returns-in_err-lines-clause-records : goal.returns-in_err-lines-clause-records
 returns-in_err-lines-clause-records g c =
     let p = err_from_is_err_and c.from_residual-in_err-lines.result c.from_residual-in_err-lines.ensures.1 in

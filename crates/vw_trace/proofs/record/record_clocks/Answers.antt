@@ -7,7 +7,6 @@ use Rattle.vw_net.specs.History.{state_after}
 use Rattle.vw_outside.specs.Told.{held}
 use Rattle.vw_rows.specs.declared.fault.StimFault.{StimFault}
 use Rattle.vw_rows.specs.Stimulus.{stimulus_rows}
-use Rattle.vw_trace.specs.Engines.{IsCount}
 use Rattle.vw_trace.specs.Steps.Recording.{Point, RecordsOut}
 use Rattle.vw_trace.proofs.Streaming.{begins, stands_then, unread, unwritten_lines, further, all_given}
 use Rattle.vw_trace.proofs.record.record_clocks.Given.{Over}
@@ -123,7 +122,7 @@ loop-alloc-preserved g c =
     let here : Point = record { clock = g.R.Recorder.clocks c.loop-alloc.recorder; state = c.loop-alloc.state; left = g.R.Recorder.left c.loop-alloc.recorder } in
     let there : Point = record { clock = g.R.Recorder.clocks c.record_batch.new.recorder; state = c.record_batch.new.state; left = g.R.Recorder.left c.record_batch.new.recorder } in
     record {
-      done = subst (λ (n : ℕ). IsCount (g.E.Engine.done c.record_batch.new.engine) n) (sym recorded.clocks) recorded.done;
+      done = recorded.done ∙ sym recorded.clocks;
       netlist = recorded.netlist ∙ same;
       its_outputs = recorded.its_outputs ∙ c.loop-alloc.invariant.its_outputs;
       its_latches = recorded.its_latches ∙ c.loop-alloc.invariant.its_latches;
@@ -162,7 +161,7 @@ returns-clause-all g c =
     let so_far = c.loop-alloc.invariant.underway in
     let all = all_done g (goal.at.returns-clause-all g c).After-loop-alloc in
     let place : g.R.Recorder.clocks c.loop-alloc.recorder ≡ g.R.Recorder.clocks c.args.recorder.now + c.args.stimulus.now.clocks = omega (arith, so_far.clock_is, so_far.count, all) in
-    subst (λ (n : ℕ). IsCount (g.E.Engine.done c.loop-alloc.engine) n) place c.loop-alloc.invariant.done
+    c.loop-alloc.invariant.done ∙ place
 
 pub returns-clause-ends : goal.returns-clause-ends
 returns-clause-ends g c =

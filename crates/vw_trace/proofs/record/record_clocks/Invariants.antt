@@ -1,12 +1,11 @@
 -- so many batches were read and written down; the engine has its netlist, and its count of clocks is the recorder's
 use Rattle.std.proofs.Common.{◌≡◌, ◌-◌}
-use Rattle.vw_trace.specs.Engines.{IsCount}
 use Rattle.vw_trace.proofs.Streaming.{IsUnderway}
 use Rattle.vw_trace.proofs.record.record_clocks.Given as goal
 
 abbrev pub invariant-loop-alloc : goal.invariant-loop-alloc
 invariant-loop-alloc g l = record {
-  done : IsCount (g.E.Engine.done l.engine) (g.R.Recorder.clocks l.recorder);
+  done : g.E.Engine.done l.engine ≡ g.R.Recorder.clocks l.recorder;
   netlist : g.E.Engine.netlist l.engine ≡ g.E.Engine.netlist l.fn.engine;
   its_outputs : g.R.Recorder.outputs l.recorder ≡ g.R.Recorder.outputs l.fn.recorder;
   its_latches : g.R.Recorder.latches l.recorder ≡ g.R.Recorder.latches l.fn.recorder;
