@@ -5,11 +5,11 @@ use Rattle.vw_outside.specs.Fronts.{IsFront}
 use Rattle.vw_rows.specs.declared.fault.StimFault.{StimFault}
 use Rattle.vw_rows.specs.Stimulus.{stimulus_rows}
 use Rattle.vw_front.specs.Designs.{WatchedDesign, IsWatchedDesignOf}
-use Rattle.vw_top.specs.declared.vocabulary.Reason.{Reason}
-use Rattle.vw_top.specs.declared.vocabulary.Reason.TheVariants.{Stimulus}
-use Rattle.vw_top.specs.Messages.{reason_line}
-use Rattle.vw_top.specs.Kinds.{IsBadDesign}
-use Rattle.vw_top.specs.Commands.{trace_of}
+use Rattle.vw_courses.specs.declared.vocabulary.Reason.{Reason}
+use Rattle.vw_courses.specs.declared.vocabulary.Reason.TheVariants.{Stimulus}
+use Rattle.vw_courses.specs.Messages.{reason_line}
+use Rattle.vw_courses.specs.Kinds.{IsBadDesign}
+use Rattle.vw_courses.specs.Commands.{trace_of}
 
 -- out is the trace of the design that the text spells, over the rows of the stimulus, and err is empty
 pub record IsSimulated (design stimulus out err : List ℕ) : Type 0 where

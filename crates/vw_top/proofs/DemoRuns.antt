@@ -17,9 +17,9 @@ use Rattle.vw_gen.specs.Design.{design_text}
 use Rattle.vw_gen.specs.Stimulus.{stimulus_text}
 use Rattle.vw_prog.specs.declared.word.Word.{Word}
 use Rattle.vw_gen.specs.Summary.{summary}
-use Rattle.vw_top.specs.Messages.{vocabulary}
-use Rattle.vw_top.specs.Demo.{board_name, design_name, generated, stimulus_name}
-use Rattle.vw_top.specs.Commands.{demo_course, demo_run, run_course}
+use Rattle.vw_courses.specs.Messages.{vocabulary}
+use Rattle.vw_courses.specs.Demo.{board_name, design_name, generated, stimulus_name}
+use Rattle.vw_courses.specs.Commands.{demo_course, demo_run, run_course}
 
 -- the names of the texts may be told otherwise
 pub named : (workers : ℕ) (design board stimulus : List ℕ) (P : Course vocabulary → Type 0) → design ≡ design_name → board ≡ board_name → stimulus ≡ stimulus_name

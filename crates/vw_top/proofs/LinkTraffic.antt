@@ -1,4 +1,4 @@
--- From what a run that is done has written and carried to what its links have carried.
+-- What the links of a planned board carry, by the number of workers.
 use Rattle.std.proofs.Common.{◌≡◌, ◌<◌, ◌≤◌, ℕ, Bool, true, false, List, length, take, Option, Some, None, if◌then◌else◌, refl, sym, ◌∙◌, ap, subst, arith}
 use Rattle.std.specs.Prelude.{ltb}
 use Rattle.std.proofs.Math.Path.{fun_ext}
@@ -21,32 +21,9 @@ use Rattle.vw_plan.specs.PlannedBoard.{PlannedBoard, planned_board}
 use Rattle.vw_prog.specs.declared.word.Word.{Word}
 use Rattle.vw_batches.specs.Traffic.{words_from}
 use Rattle.vw_batches.proofs.LinkWords.{words_of_front}
-use Rattle.vw_top.specs.Messages.{vocabulary, Call, CallWork}
-use Rattle.vw_top.specs.Commands.{TextOver, Scripts, no_links, netlist_course, scripts_from, board_scripts, board_course}
-use Rattle.vw_top.specs.TracedStatuses.{designs, IsTrace}
-use Rattle.vw_top.specs.LinkTraffic.{UsesBoard, CarriesAll}
+use Rattle.vw_courses.specs.Messages.{vocabulary, Call, CallWork}
+use Rattle.vw_courses.specs.Commands.{TextOver, Scripts, no_links, netlist_course, scripts_from, board_scripts, board_course}
 use Rattle.vw_top.proofs.StreamedTraces.{HaveParts}
-
-module _ (probes : List ProbeWord) (text : TextOver WatchedDesign) (design : List ℕ) (call : Call) (workers : ℕ) (unknown : Bool) (d s : List ℕ) (May Is : Ordered → Board → Plan → Type 0)
-    (also : (ordered : Ordered) (board : Board) (plan : Plan) → May ordered board plan → Is ordered board plan) where
-  pub carries_all : IsDone (IsTrace (designs probes design) text d s (UsesBoard workers unknown May)) call → CarriesAll probes workers unknown d s Is call
-  carries_all done =
-      let trace = done.is in
-      let uses = trace.uses in
-      let words : done.did.scripts ≡ board_scripts workers unknown (planned_board uses.ordered uses.board uses.plan) trace.rows =
-      ap (λ (w : CallWork). w.scripts) trace.is ∙ ap (λ (scripts : Scripts). scripts trace.rows) uses.are in
-      record {
-        spelled = trace.its;
-        rows = trace.rows;
-        design_is = trace.are.spells;
-        rows_are = trace.are.rows_are;
-        ordered = uses.ordered;
-        board = uses.board;
-        plan = uses.plan;
-        is = also uses.ordered uses.board uses.plan uses.is;
-        links = ap (λ (o : SeenOutside vocabulary.Word). o.links) done.leaves
-            ∙ ap (λ (scripts : Option (ℕ → List Word)). carried scripts call.before.links) words;
-      }
 
 -- ---- how many workers there are
 

@@ -22,13 +22,13 @@ use Rattle.vw_plan.specs.PlannedBoard.{planned_board}
 use Rattle.vw_plan.specs.Sound.{IsSound}
 use Rattle.vw_plantext.specs.PlanText.{Spells as SpellsPlan}
 use Rattle.vw_run.specs.Compiled.{IsCompiled}
-use Rattle.vw_top.specs.declared.vocabulary.File.{File}
-use Rattle.vw_top.specs.declared.vocabulary.Reason.{Reason}
-use Rattle.vw_top.specs.Messages.{vocabulary}
-use Rattle.vw_top.specs.Kinds.{netlist_kind, board_kind, plan_kind, soundness, planning}
-use Rattle.vw_top.specs.Commands.{Rest, given_sound_course, with_plan_course, on_board_course, ready_course}
-use Rattle.vw_top.specs.Steps.Stages.{cut_there, IsCheckedPlan, IsPlanned, IsOnBoard, IsReadyBoard}
-use Rattle.vw_top.specs.PlannedStatuses.{IsPlanBy}
+use Rattle.vw_courses.specs.declared.vocabulary.File.{File}
+use Rattle.vw_courses.specs.declared.vocabulary.Reason.{Reason}
+use Rattle.vw_courses.specs.Messages.{vocabulary}
+use Rattle.vw_courses.specs.Kinds.{netlist_kind, board_kind, plan_kind, soundness, planning}
+use Rattle.vw_courses.specs.Commands.{Rest, given_sound_course, with_plan_course, on_board_course, ready_course}
+use Rattle.vw_top.specs.Stages.{cut_there, IsCheckedPlan, IsPlanned, IsOnBoard, IsReadyBoard}
+use Rattle.vw_courses.specs.MayPlan.{IsPlanBy}
 
 -- ---- what was made, in the words of the next function
 

@@ -26,47 +26,19 @@ use Rattle.vw_trace.specs.declared.fault.RunFault.{RunFault}
 use Rattle.vw_trace.specs.declared.fault.RunFault.TheVariants as runs
 use Rattle.vw_trace.specs.Streamed.{IsNotHeld, MayBeRows, EndsStreaming, DoneFor, Streams}
 use Rattle.vw_trace.proofs.StreamedTexts.{other_done}
-use Rattle.vw_top.specs.declared.vocabulary.File.{File}
-use Rattle.vw_top.specs.declared.vocabulary.File.TheVariants as files
-use Rattle.vw_top.specs.declared.vocabulary.Reason.{Reason}
-use Rattle.vw_top.specs.Messages.{vocabulary, CallWork}
-use Rattle.vw_top.specs.Kinds.{rows_kind, IsBadStimulus, IsBadAgain}
-use Rattle.vw_top.specs.Commands.{trace_of, netlist_trace, saved_of, netlist_state, TextOver, Scripts, no_links, tracing, IsSomeTrace, trace_course, RowCheck, no_check, check_by, with_check, checked_rows_course, rows_course, design_course, netlist_course}
-use Rattle.vw_top.specs.Steps.Stages.{run_answer}
-use Rattle.vw_top.proofs.FlatTraces.{trace_same, saved_same}
+use Rattle.vw_courses.specs.declared.vocabulary.File.{File}
+use Rattle.vw_courses.specs.declared.vocabulary.File.TheVariants as files
+use Rattle.vw_courses.specs.declared.vocabulary.Reason.{Reason}
+use Rattle.vw_courses.specs.Messages.{vocabulary, CallWork}
+use Rattle.vw_courses.specs.Kinds.{rows_kind, IsBadStimulus, IsBadAgain}
+use Rattle.vw_courses.specs.Commands.{trace_of, netlist_trace, saved_of, netlist_state, TextOver, Scripts, no_links, tracing, IsSomeTrace, trace_course, RowCheck, no_check, check_by, with_check, checked_rows_course, rows_course, design_course, netlist_course}
+use Rattle.vw_top.specs.Stages.{run_answer}
+use Rattle.vw_courses.proofs.TextsOfDesigns.{of_design}
+use Rattle.vw_courses.proofs.RowChecks.{PassCheck, FailCheck}
 
 -- ---- from a netlist to its design
 
--- a text of netlists is that of the designs of which they are
-abbrev pub IsTextOfDesigns : List ProbeWord → TextOver WatchedDesign → TextOver Ordered → Type 0
-IsTextOfDesigns probes text flat_text = (watched : WatchedDesign) (ordered : Ordered) → IsFlatOf watched.design watched.nets ordered.flat → length probes ≡ length watched.nets
-    → (rows : List (List Bool)) → flat_text ordered rows ≡ text watched rows
-
--- so are traces
-pub traces_agree : (probes : List ProbeWord) (unknown : Bool) → IsTextOfDesigns probes (trace_of unknown) (netlist_trace (length probes) unknown)
-traces_agree probes unknown watched ordered is counted rows = trace_same unknown (length probes) watched ordered.flat is counted rows
-
--- and so are saved states
-pub saved_agree : (probes : List ProbeWord) (unknown : Bool) → IsTextOfDesigns probes (saved_of unknown) (netlist_state unknown)
-saved_agree probes unknown watched ordered is counted rows = saved_same unknown watched ordered is rows
-
-module _ (F : Course vocabulary → Type 0) (stimulus : List ℕ) (text : TextOver WatchedDesign) (flat_text : TextOver Ordered) (scripts : Scripts) (watched : WatchedDesign) (ordered : Ordered) (is : IsFlatOf watched.design watched.nets ordered.flat)
-    (same : (rows : List (List Bool)) → flat_text ordered rows ≡ text watched rows) where
-  texts_same : flat_text ordered ≡ text watched
-  texts_same = fun_ext same
-
-  -- the course of a netlist is that of its design
-  pub of_design : F (netlist_course stimulus flat_text scripts ordered) → F (design_course stimulus text scripts watched)
-  of_design of =
-      subst (λ (width : ℕ). F (rows_course stimulus width (text watched) scripts)) is.inputs
-      (subst (λ (its : List (List Bool) → List ℕ). F (rows_course stimulus ordered.flat.inputs its scripts)) texts_same of)
-
-  pub of_netlist : F (design_course stimulus text scripts watched) → F (netlist_course stimulus flat_text scripts ordered)
-  of_netlist of =
-      subst (λ (its : List (List Bool) → List ℕ). F (rows_course stimulus ordered.flat.inputs its scripts)) (sym texts_same)
-      (subst (λ (width : ℕ). F (rows_course stimulus width (text watched) scripts)) (sym is.inputs) of)
-
--- so a function that follows the one follows the other
+-- a function that follows the course of the one follows that of the other
 module _ {S O : Type 0} (seen_shelf : S → SeenShelf) (seen_out : O → SeenSink) (stimulus : List ℕ) (text : TextOver WatchedDesign) (flat_text : TextOver Ordered) (scripts : Scripts) where
   pub goes_of_design : {before after : Outside S O} {answer : Answer vocabulary} (watched : WatchedDesign) (ordered : Ordered) → IsFlatOf watched.design watched.nets ordered.flat → ((rows : List (List Bool)) → flat_text ordered rows ≡ text watched rows)
       → Goes seen_shelf seen_out vocabulary (netlist_course stimulus flat_text scripts ordered) before after answer → Goes seen_shelf seen_out vocabulary (design_course stimulus text scripts watched) before after answer
@@ -142,15 +114,6 @@ stands_held before after name text stimulus same named of stands other holds =
 
 abbrev Stands : List ℕ → Stimulus → Type 0
 Stands text stimulus = StandsIn stimulus text
-
--- what rows have to be that pass the check, and how it ends for others
-abbrev pub PassCheck : RowCheck → List (List Bool) → Type 0
-PassCheck no_check rows = Unit {0}
-PassCheck (check_by judged) rows = (judged rows).Good tt
-
-abbrev pub FailCheck : RowCheck → List (List Bool) → Reason → Type 0
-FailCheck no_check rows reason = ⊥
-FailCheck (check_by judged) rows reason = (judged rows).Bad reason
 
 module _ {S O : Type 0} (seen_shelf : S → SeenShelf) (seen_out : O → SeenSink) (Moved : Carried vocabulary.Word → Carried vocabulary.Word → Type 0) (next : List (List Bool) → Course vocabulary) (rows : List (List Bool)) where
   goes_past_check : (check : RowCheck) (before after : Outside S O) (answer : Answer vocabulary) → PassCheck check rows → GoesOver seen_shelf seen_out vocabulary Moved (next rows) before after answer → GoesOver seen_shelf seen_out vocabulary Moved (with_check check next rows) before after answer

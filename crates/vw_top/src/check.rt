@@ -3,14 +3,14 @@ ghost use Rattle.std.specs.Option.{option_copied};
 ghost use Rattle.std.specs.Prelude.{◌≡◌, IfOk};
 ghost use Rattle.vw_course.specs.Goes.{Goes};
 ghost use Rattle.vw_outside.specs.Writes.{WritesOut};
-ghost use Rattle.vw_top.specs.Commands.{ready_course, size_rest, sound_text};
-ghost use Rattle.vw_top.specs.Messages.{vocabulary};
+ghost use Rattle.vw_courses.specs.Commands.{ready_course, size_rest, sound_text};
+ghost use Rattle.vw_courses.specs.Messages.{vocabulary};
 
 use crate::board_files::BoardFiles;
 use crate::ready::ready_board;
-use crate::vocabulary::Unfinished;
 use std::alloc::{AllocError, Global};
 use vw_course::{Outside, answer_of};
+use vw_courses::Unfinished;
 use vw_outside::{Shelf, Sink, Unwritten, put_text};
 use vw_plan::{Checked, Plan};
 

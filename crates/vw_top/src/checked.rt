@@ -4,12 +4,12 @@ ghost use Rattle.vw_course.specs.Stages.{EndsJudging};
 ghost use Rattle.vw_plan.specs.PlannedBoard.{planned_board};
 ghost use Rattle.vw_run.specs.Compiled.{IsCompiled};
 ghost use Rattle.vw_run.specs.GivenChips.{IsCompiledFor};
-ghost use Rattle.vw_top.specs.Kinds.{IsBadChips, IsBadFit, IsBadPlan};
-ghost use Rattle.vw_top.specs.Steps.Stages.{EndsFault, IsCheckedPlan};
+ghost use Rattle.vw_courses.specs.Kinds.{IsBadChips, IsBadFit, IsBadPlan};
+ghost use Rattle.vw_top.specs.Stages.{EndsFault, IsCheckedPlan};
 
-use crate::vocabulary::{Reason, Unfinished};
 use std::alloc::Global;
 use vw_check::{PlanFault, check, chips_fault};
+use vw_courses::{Reason, Unfinished};
 use vw_net::{Ordered, Sequence};
 use vw_plan::{Board, Checked, Plan};
 use vw_run::{CompileFault, compile, compile_for};

@@ -1,11 +1,13 @@
 //! The public calls, and how they end.
-ghost use Rattle.std.specs.Prelude.{◌≡◌, false, true, MatchOption};
+ghost use Rattle.std.specs.Prelude.{◌≡◌, false, true, IfSome, MatchOption};
+ghost use Rattle.vw_statuses.specs.Headline.{Headline};
+ghost use Rattle.vw_statuses.specs.Promises.{Promise};
 ghost use Rattle.vw_course.specs.Endings.{IsCallOf};
 ghost use Rattle.vw_course.specs.Goes.{Goes, GoesOver, IsCalled, IsFollowed, MovedFrom, Unmoved, seen_call, seen_outside};
-ghost use Rattle.vw_top.specs.Commands.{course_of};
-ghost use Rattle.vw_top.specs.Messages.{vocabulary};
-ghost use Rattle.vw_top.specs.Steps.Commands.{command_view};
-ghost use Rattle.vw_top.specs.Words.{spelled_by, needs_runtime};
+ghost use Rattle.vw_courses.specs.Commands.{course_of};
+ghost use Rattle.vw_courses.specs.Messages.{vocabulary};
+ghost use Rattle.vw_courses.specs.Steps.Commands.{command_view};
+ghost use Rattle.vw_courses.specs.Words.{spelled_by, needs_runtime};
 
 use crate::board_files::BoardFiles;
 use crate::check::check;
@@ -21,16 +23,16 @@ use crate::resume::resume;
 use crate::run::{run_by_one, run_by_several};
 use crate::save::save;
 use crate::sim::sim;
-use crate::vocabulary::{Reason, Unfinished};
 use crate::wave::wave;
-use crate::words::{Command, command_of, probes_of};
 use std::alloc::Global;
 use std::marker::Sync;
 use std::sync::Wait;
 use std::thread::Threads;
 use vw_course::{Outside, report};
+use vw_courses::{Command, Reason, Unfinished, command_of, probes_of};
 use vw_outside::{BurstGate, Name, Shelf, Sink};
 use vw_prog::Fabric;
+use vw_statuses::{headline, promises};
 
 /// Carries out a command that needs no runtime, up to its message.
 fn carry_out<S: Shelf, O: Sink>(
@@ -297,7 +299,8 @@ pub fn alone<S: Shelf, O: Sink, E: Sink>(
     out: &mut O,
     err: &mut E,
 ) -> Option<u8>
-    ensures { MatchOption result
+    // It follows the course of the command, where this needs no runtime, and ends with the status and the message of its answer.
+    ensures called { MatchOption result
         ((needs_runtime (spelled_by words.now) ≡ true)
         × (shelf.new ≡ shelf.old) × (out.new ≡ out.old) × (err.new ≡ err.old))
         (λ status. (needs_runtime (spelled_by words.now) ≡ false)
@@ -305,7 +308,17 @@ pub fn alone<S: Shelf, O: Sink, E: Sink>(
         (S.seen shelf.old) (O.seen out.old) (E.seen err.old)
         (S.seen shelf.new) (O.seen out.new) (E.seen err.new)
         status) }
+
+    // A run that ends with status 0 has written the trace of the unpartitioned design.
+    ensures headline { IfSome result (Headline words.now (S.seen shelf.old).told (O.seen out.old)
+        (O.seen out.new)) }
+
+    // And each command has written what it promises.
+    ensures promise { IfSome result (λ status. status ≡ 0
+        → Promise (spelled_by words.now) (S.seen shelf.old).told (O.seen out.old) (O.seen out.new)) }
 {
+    headline();
+    promises();
     let command = command_of(words);
     if command.needs_runtime() {
         return None;
@@ -334,11 +347,21 @@ pub fn virtual_wires<R: Threads + Wait + Sync, S: Shelf, F: Fabric, G: BurstGate
     err: &mut E,
 ) -> u8
     // It follows the course of the command, and ends with the status and the message of its answer.
-    ensures { IsCallOf (course_of (spelled_by words.now)) (seen_call
+    ensures called { IsCallOf (course_of (spelled_by words.now)) (seen_call
         (seen_outside (S.seen shelf.old) (O.seen out.old) (F.carried fabric.old)) (E.seen err.old)
         (seen_outside (S.seen shelf.new) (O.seen out.new) (F.carried fabric.new)) (E.seen err.new)
         result) }
+
+    // A run that ends with status 0 has written the trace of the unpartitioned design.
+    ensures headline { Headline words.now (S.seen shelf.old).told (O.seen out.old) (O.seen out.new)
+        result }
+
+    // And each command has written what it promises.
+    ensures promise { result ≡ 0
+        → Promise (spelled_by words.now) (S.seen shelf.old).told (O.seen out.old) (O.seen out.new) }
 {
+    headline();
+    promises();
     let command = command_of(words);
     if command.needs_runtime() {
         let mut hands = Hands { rt, fabric, gate };

@@ -4,22 +4,21 @@ ghost use Rattle.vw_course.specs.Goes.{Goes, GoesOver, IsFollowed, MovedFrom, Un
 ghost use Rattle.vw_course.specs.OnTexts.{EndsSummed};
 ghost use Rattle.vw_outside.specs.Memory.{seen_sink};
 ghost use Rattle.vw_outside.specs.Sure.{seen_sure, sure_text};
-ghost use Rattle.vw_top.specs.Commands.{demo_course, demo_run, run_course};
-ghost use Rattle.vw_top.specs.Demo.{board_name, design_name, generated, stimulus_name};
+ghost use Rattle.vw_courses.specs.Commands.{demo_course, demo_run, run_course};
+ghost use Rattle.vw_courses.specs.Demo.{board_name, design_name, generated, stimulus_name};
 ghost use Rattle.vw_gen.specs.Summary.{summary};
-ghost use Rattle.vw_top.specs.Messages.{vocabulary};
+ghost use Rattle.vw_courses.specs.Messages.{vocabulary};
 
 use crate::board_files::BoardFiles;
 use crate::hands::Hands;
 use crate::probes::Probes;
 use crate::run::{run_by_one, run_by_several};
-use crate::size::Size;
-use crate::vocabulary::Unfinished;
 use std::alloc::{AllocError, Global};
 use std::marker::Sync;
 use std::sync::Wait;
 use std::thread::Threads;
 use vw_course::{Outside, answer_of};
+use vw_courses::{Size, Unfinished};
 use vw_gen::{board, design, stimulus, summary};
 use vw_outside::{
     BurstGate, MemSink, Name, Shelf, Sink, SureShelf, no_read_fault_over_a_sure_shelf, put_text,

@@ -7,14 +7,14 @@ ghost use Rattle.vw_front.specs.NamedNetlists.{IsNamedNetlistOf};
 ghost use Rattle.vw_plantext.specs.ChipsText.{SpellsChips};
 ghost use Rattle.vw_plantext.specs.PlanText.{Spells as SpellsPlan};
 ghost use Rattle.vw_rows.specs.Standing.{IsAtStart, StandsIn};
-ghost use Rattle.vw_top.specs.Kinds.{IsBadDesign, IsBadBoard, IsBadChipsText, IsBadPlanText, IsBadState, IsBadStimulus, IsStateOf};
-ghost use Rattle.vw_top.specs.Steps.Stages.{run_answer};
+ghost use Rattle.vw_courses.specs.Kinds.{IsBadDesign, IsBadBoard, IsBadChipsText, IsBadPlanText, IsBadState, IsBadStimulus, IsStateOf};
+ghost use Rattle.vw_top.specs.Stages.{run_answer};
 
 use crate::probes::Probes;
-use crate::vocabulary::{File, Reason, Unfinished};
 use std::alloc::Global;
 use vw_blif::TextFault;
 use vw_board::BoardFault;
+use vw_courses::{File, Reason, Unfinished};
 use vw_front::{NamedNetlist, NetlistFault, named_netlist_of_text, netlist_of_text};
 use vw_net::{Ordered, Sequence};
 use vw_outside::{Name, Shelf, TextRefused, read_text};

@@ -3,11 +3,11 @@ ghost use Rattle.std.specs.Prelude.{◌≡◌};
 ghost use Rattle.vw_course.specs.Course.{writes};
 ghost use Rattle.vw_course.specs.Goes.{Goes};
 ghost use Rattle.vw_outside.specs.Writes.{WritesOut};
-ghost use Rattle.vw_top.specs.Help.{help_text, version_text};
-ghost use Rattle.vw_top.specs.Messages.{vocabulary};
+ghost use Rattle.vw_courses.specs.Help.{help_text, version_text};
+ghost use Rattle.vw_courses.specs.Messages.{vocabulary};
 
-use crate::vocabulary::Unfinished;
 use vw_course::{Outside, answer_of};
+use vw_courses::Unfinished;
 use vw_outside::{Shelf, Sink, Unwritten, put_all};
 
 /// How the program is called: its commands, their files and settings, and what its exit status means.

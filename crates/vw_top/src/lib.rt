@@ -8,7 +8,6 @@ mod commands;
 mod demo;
 mod emit;
 mod files;
-mod forms;
 mod grade;
 mod hands;
 mod help;
@@ -20,18 +19,14 @@ mod resume;
 mod run;
 mod save;
 mod sim;
-mod size;
-mod statuses;
-mod vocabulary;
 mod wave;
-mod words;
 
 pub use commands::{alone, virtual_wires};
-pub use statuses::{
+pub use vw_courses::{File, Reason, Unfinished};
+pub use vw_statuses::{
     call_statuses, check_statuses, demo_statuses, emit_statuses, emitted_boards_show_designs,
     grade_statuses, headline, help_statuses, nets_statuses, pieces_join, plan_for_statuses,
-    plan_statuses, resume_statuses, run_statuses, save_statuses, sim_statuses, unused_links_stay,
-    usage_statuses, version_statuses, wave_statuses, waves_show_designs,
+    plan_statuses, promises, resume_statuses, run_statuses, save_statuses, sim_statuses,
+    unused_links_stay, usage_statuses, version_statuses, wave_statuses, waves_show_designs,
     wrong_words_have_their_place,
 };
-pub use vocabulary::{File, Reason, Unfinished};

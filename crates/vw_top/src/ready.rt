@@ -2,15 +2,15 @@
 ghost use Rattle.std.specs.Option.{option_copied};
 ghost use Rattle.std.specs.Prelude.{Some, None};
 ghost use Rattle.vw_course.specs.Goes.{EndsPart};
-ghost use Rattle.vw_top.specs.Commands.{given_sound_course, on_board_course, ready_course, with_plan_course};
-ghost use Rattle.vw_top.specs.Messages.{vocabulary};
-ghost use Rattle.vw_top.specs.Steps.Stages.{IsOnBoard, IsPlanned, IsReadyBoard, cut_there};
+ghost use Rattle.vw_courses.specs.Commands.{given_sound_course, on_board_course, ready_course, with_plan_course};
+ghost use Rattle.vw_courses.specs.Messages.{vocabulary};
+ghost use Rattle.vw_top.specs.Stages.{IsOnBoard, IsPlanned, IsReadyBoard, cut_there};
 
 use crate::board_files::BoardFiles;
 use crate::checked::{good_plan, sound_plan};
 use crate::files::{read_board, read_design, read_given_plan};
-use crate::vocabulary::Unfinished;
 use std::alloc::Global;
+use vw_courses::Unfinished;
 use vw_net::Ordered;
 use vw_outside::{Name, Shelf};
 use vw_plan::{Board, Checked};

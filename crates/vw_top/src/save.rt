@@ -2,19 +2,19 @@
 ghost use Rattle.std.specs.Option.{option_copied};
 ghost use Rattle.std.specs.Prelude.{◌≡◌};
 ghost use Rattle.vw_course.specs.Goes.{GoesOver, MovedFrom};
-ghost use Rattle.vw_top.specs.Commands.{board_course, netlist_state, over_rows_course};
-ghost use Rattle.vw_top.specs.Messages.{vocabulary};
+ghost use Rattle.vw_courses.specs.Commands.{board_course, netlist_state, over_rows_course};
+ghost use Rattle.vw_courses.specs.Messages.{vocabulary};
 
 use crate::board_files::BoardFiles;
 use crate::files::{check_rows, run_answer};
 use crate::hands::Hands;
 use crate::ready::ready_board;
-use crate::vocabulary::Unfinished;
 use std::alloc::Global;
 use std::marker::Sync;
 use std::sync::Wait;
 use std::thread::Threads;
 use vw_course::Outside;
+use vw_courses::Unfinished;
 use vw_outside::{BurstGate, Name, Shelf, Sink};
 use vw_plan::Checked;
 use vw_prog::Fabric;

@@ -1,14 +1,14 @@
 //! The command `sim`.
 ghost use Rattle.std.specs.Prelude.{◌≤◌, length};
 ghost use Rattle.vw_course.specs.Goes.{Goes};
-ghost use Rattle.vw_top.specs.Commands.{netlist_course, netlist_trace, no_links, sim_course};
-ghost use Rattle.vw_top.specs.Messages.{vocabulary};
+ghost use Rattle.vw_courses.specs.Commands.{netlist_course, netlist_trace, no_links, sim_course};
+ghost use Rattle.vw_courses.specs.Messages.{vocabulary};
 
 use crate::files::{check_rows, read_design, run_answer};
 use crate::probes::Probes;
-use crate::vocabulary::Unfinished;
 use std::alloc::Global;
 use vw_course::Outside;
+use vw_courses::Unfinished;
 use vw_net::Ordered;
 use vw_outside::{Name, Shelf, Sink};
 use vw_trace::write_trace;

@@ -3,14 +3,14 @@ ghost use Rattle.std.specs.Prelude.{◌≡◌, ◌+◌, ℕ, List, length};
 ghost use Rattle.vw_course.specs.Goes.{Goes};
 ghost use Rattle.vw_front.specs.NamedNetlists.{IsNamedNetlistOf};
 ghost use Rattle.vw_net.specs.Cells.{latch_count};
-ghost use Rattle.vw_top.specs.Commands.{design_course, netlist_course, netlist_wave, no_links, wave_course, wave_of};
-ghost use Rattle.vw_top.specs.Messages.{vocabulary};
+ghost use Rattle.vw_courses.specs.Commands.{design_course, netlist_course, netlist_wave, no_links, wave_course, wave_of};
+ghost use Rattle.vw_courses.specs.Messages.{vocabulary};
 
 use crate::files::{check_rows, read_named_design, run_answer};
 use crate::probes::Probes;
-use crate::vocabulary::Unfinished;
 use std::alloc::Global;
 use vw_course::Outside;
+use vw_courses::Unfinished;
 use vw_front::NamedNetlist;
 use vw_net::Ordered;
 use vw_outside::{Name, Shelf, Sink};

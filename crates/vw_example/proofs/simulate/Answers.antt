@@ -11,12 +11,12 @@ use Rattle.vw_course.specs.Endings.{IsReported, IsCallOf}
 use Rattle.vw_course.specs.Statuses.{LeavesPart, Statuses}
 use Rattle.vw_course.specs.Goes.{seen_outside}
 use Rattle.vw_prog.specs.declared.word.Word.{Word}
-use Rattle.vw_top.specs.Words.{Spelled, spelled_by}
-use Rattle.vw_top.specs.Words as words
-use Rattle.vw_top.specs.Messages.{reason_line, Call, CallWork}
-use Rattle.vw_top.specs.Commands.{sim_course, course_of, trace_of}
-use Rattle.vw_top.specs.TracedStatuses.{designs, HoldTexts}
-use Rattle.vw_top.specs.SimStatuses.{SimStatuses}
+use Rattle.vw_courses.specs.Words.{Spelled, spelled_by}
+use Rattle.vw_courses.specs.Words as words
+use Rattle.vw_courses.specs.Messages.{reason_line, Call, CallWork}
+use Rattle.vw_courses.specs.Commands.{sim_course, course_of, trace_of}
+use Rattle.vw_statuses.specs.TracedStatuses.{designs, HoldTexts}
+use Rattle.vw_statuses.specs.SimStatuses.{SimStatuses}
 use Rattle.vw_example.specs.SimulateStatuses.{IsSimulated, HasBadDesign, HasBadRows, SimulateStatuses}
 use Rattle.vw_example.proofs.simulate.Goals as goal
 
@@ -133,7 +133,7 @@ returns c =
       status = c.in-Some.status;
     } in
     let words_are : c.deref.result.now ≡ codes "sim" ∷ codes "design" ∷ codes "stimulus" ∷ [] = c.deref.ensures.value ∙ c.in_ok-words.ensures.items ∙ three_words c.in_ok-owned_name-3.ensures c.in_ok-owned_name-4.ensures c.in_ok-owned_name-5.ensures in
-    let its_call : IsCallOf (course_of its_sim) call = subst (λ (spelled : Spelled). IsCallOf (course_of spelled) call) (ap spelled_by words_are ∙ spells_sim) (c.in-Some.ensures.1 no_links) in
+    let its_call : IsCallOf (course_of its_sim) call = subst (λ (spelled : Spelled). IsCallOf (course_of spelled) call) (ap spelled_by words_are ∙ spells_sim) (c.in-Some.ensures.called.1 no_links) in
     let files_are : c.new-shelf.result.files.items ≡ c.make.result ∷ c.make-2.result ∷ [] = c.new-shelf.ensures.files ∙ c.in_ok-files.ensures.items in
     let both = hold_both c.new-shelf.result.files.items c.make.result c.make-2.result c.args.design.items c.args.stimulus.items files_are (c.make.ensures.name ∙ c.in_ok-owned_name.ensures) (c.make-2.ensures.name ∙ c.in_ok-owned_name-2.ensures) c.make.ensures.bytes c.make-2.ensures.bytes in
     let copied : c.in_ok-to_vec.field-0.items ≡ c.bytes.result.now = search rules in

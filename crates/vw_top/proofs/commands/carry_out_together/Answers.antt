@@ -1,12 +1,12 @@
 use Rattle.std.proofs.Common.{◌≡◌, ℕ, List, take, sym, ◌∙◌, ap, subst}
 use Rattle.std.specs.Option.{option_copied}
 use Rattle.vw_course.specs.Goes.{GoesOver, MovedFrom}
-use Rattle.vw_top.specs.Commands.{course_of}
-use Rattle.vw_top.specs.Messages.{vocabulary}
-use Rattle.vw_top.specs.Steps.Commands.{command_view}
-use Rattle.vw_top.specs.Words.{Spelled}
-use Rattle.vw_top.specs.declared.forms.TheConstants.{MOST_PROBES}
-use Rattle.vw_top.specs.Words as words
+use Rattle.vw_courses.specs.Commands.{course_of}
+use Rattle.vw_courses.specs.Messages.{vocabulary}
+use Rattle.vw_courses.specs.Steps.Commands.{command_view}
+use Rattle.vw_courses.specs.Words.{Spelled}
+use Rattle.vw_courses.specs.declared.forms.TheConstants.{MOST_PROBES}
+use Rattle.vw_courses.specs.Words as words
 use Rattle.vw_top.proofs.commands.carry_out_together.Goals as goal
 
 -- the words spell this demo

@@ -1,9 +1,9 @@
 use Rattle.std.proofs.Common.{refl}
 use Rattle.vw_course.specs.Goes.{seen_outside}
 use Rattle.vw_course.proofs.GoesLaws.{call_done, call_of}
-use Rattle.vw_top.specs.Steps.Commands.{command_view}
-use Rattle.vw_top.specs.Commands.{course_of}
-use Rattle.vw_top.specs.Messages.{vocabulary}
+use Rattle.vw_courses.specs.Steps.Commands.{command_view}
+use Rattle.vw_courses.specs.Commands.{course_of}
+use Rattle.vw_courses.specs.Messages.{vocabulary}
 use Rattle.vw_top.proofs.commands.together.Goals as goal
 
 pub returns-in-Ok-clause-called : goal.returns-in-Ok-clause-called

@@ -1,7 +1,7 @@
 use Rattle.vw_course.specs.Goes.{IsFollowed, Unmoved}
 use Rattle.vw_outside.specs.Memory.{seen_sink}
 use Rattle.vw_outside.specs.Sure.{seen_sure}
-use Rattle.vw_top.specs.Messages.{vocabulary}
+use Rattle.vw_courses.specs.Messages.{vocabulary}
 use Rattle.vw_top.proofs.DemoRuns.{named}
 use Rattle.vw_top.proofs.demo.run_texts_by_one.Goals as goal
 

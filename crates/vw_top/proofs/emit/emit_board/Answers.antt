@@ -5,9 +5,9 @@ use Rattle.vw_course.specs.Goes.{Unmoved}
 use Rattle.vw_course.proofs.GoesLaws.{goes_judged, goes_unjudged, goes_writing, unmoved_still}
 use Rattle.vw_boardtext.specs.Emitted.{emitted_text}
 use Rattle.vw_plan.specs.PlannedBoard.{planned_board}
-use Rattle.vw_top.specs.Messages.{vocabulary}
-use Rattle.vw_top.specs.Kinds.{emission}
-use Rattle.vw_top.specs.Steps.Stages.{IsEmitted}
+use Rattle.vw_courses.specs.Messages.{vocabulary}
+use Rattle.vw_courses.specs.Kinds.{emission}
+use Rattle.vw_top.specs.Stages.{IsEmitted}
 use Rattle.vw_top.proofs.emit.emit_board.Goals as goal
 
 pub returns-in_err-text : goal.returns-in_err-text

@@ -1,9 +1,9 @@
 use Rattle.std.proofs.Common.{[], refl}
 use Rattle.vw_course.specs.Goes.{Unmoved}
 use Rattle.vw_course.proofs.GoesLaws.{goes_on}
-use Rattle.vw_top.specs.Messages.{vocabulary}
-use Rattle.vw_top.specs.Kinds.{named_kind}
-use Rattle.vw_top.specs.Commands.{grading_course}
+use Rattle.vw_courses.specs.Messages.{vocabulary}
+use Rattle.vw_courses.specs.Kinds.{named_kind}
+use Rattle.vw_courses.specs.Commands.{grading_course}
 use Rattle.vw_top.proofs.grade.grade.Goals as goal
 
 pub returns : goal.returns

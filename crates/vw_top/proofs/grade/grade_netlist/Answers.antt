@@ -2,7 +2,7 @@ use Rattle.std.proofs.Common.{List, refl, subst}
 use Rattle.vw_course.specs.Goes.{Unmoved}
 use Rattle.vw_design.specs.Paths.{Word}
 use Rattle.vw_trace.specs.Streamed.{Streams}
-use Rattle.vw_top.specs.Commands.{no_links, flat_grading, grading_of, no_check}
+use Rattle.vw_courses.specs.Commands.{no_links, flat_grading, grading_of, no_check}
 use Rattle.vw_top.proofs.StreamedTraces.{goes_streaming, no_parts, without_links}
 use Rattle.vw_top.proofs.grade.grade_netlist.Goals as goal
 

@@ -7,7 +7,7 @@ use Rattle.vw_net.proofs.Counts.{length-start_values}
 use Rattle.vw_fault.specs.Text.{grading_text}
 use Rattle.vw_rows.specs.declared.fault.StimFault.{StimFault}
 use Rattle.vw_trace.proofs.StreamedTexts.{nothing_streamed}
-use Rattle.vw_top.specs.Commands.{flat_grading}
+use Rattle.vw_courses.specs.Commands.{flat_grading}
 use Rattle.vw_top.proofs.GradedRows.{no_rows, not_written, whole_written}
 use Rattle.vw_top.proofs.grade.grade_rows.Given.{Over}
 use Rattle.vw_top.proofs.grade.grade_rows.Goals.{In_ok-start}

@@ -1,8 +1,8 @@
 use Rattle.std.proofs.Common.{refl, sym}
 use Rattle.vw_course.specs.Goes.{Unmoved}
 use Rattle.vw_course.proofs.GoesLaws.{goes_writing, unmoved_still}
-use Rattle.vw_top.specs.Help.{help_text}
-use Rattle.vw_top.specs.Messages.{vocabulary}
+use Rattle.vw_courses.specs.Help.{help_text}
+use Rattle.vw_courses.specs.Messages.{vocabulary}
 use Rattle.vw_top.proofs.help.help.Goals as goal
 
 pub returns : goal.returns

@@ -1,9 +1,9 @@
 use Rattle.std.proofs.Common.{refl}
 use Rattle.vw_course.specs.Goes.{Unmoved}
 use Rattle.vw_course.proofs.GoesLaws.{goes_on, goes_writing, unmoved_still}
-use Rattle.vw_top.specs.Messages.{vocabulary}
-use Rattle.vw_top.specs.Kinds.{named_kind}
-use Rattle.vw_top.specs.Commands.{nets_text, nets_writing}
+use Rattle.vw_courses.specs.Messages.{vocabulary}
+use Rattle.vw_courses.specs.Kinds.{named_kind}
+use Rattle.vw_courses.specs.Commands.{nets_text, nets_writing}
 use Rattle.vw_top.proofs.nets.nets.Goals as goal
 
 pub write_nets-requires : goal.write_nets-requires

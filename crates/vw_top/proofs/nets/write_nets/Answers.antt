@@ -1,8 +1,8 @@
 use Rattle.std.proofs.Common.{List, length, ap, arith}
 use Rattle.vw_net.specs.declared.flat.Flat.{Flat}
 use Rattle.vw_design.specs.Paths.{Word}
-use Rattle.vw_top.specs.Commands.{nets_text}
-use Rattle.vw_top.proofs.NetsLaws.{outputs_named}
+use Rattle.vw_courses.specs.Commands.{nets_text}
+use Rattle.vw_statuses.proofs.NetsLaws.{outputs_named}
 use Rattle.vw_top.proofs.nets.write_nets.Goals as goal
 
 -- each output has a name

@@ -3,9 +3,9 @@ use Rattle.std.proofs.lemmas.Result.{err_from_is_err_and}
 use Rattle.vw_course.specs.Goes.{Unmoved}
 use Rattle.vw_course.proofs.GoesLaws.{goes_made, goes_unmade, goes_writing, unmoved_still}
 use Rattle.vw_run.specs.GivenChips.{IsCompiledFor}
-use Rattle.vw_top.specs.Messages.{vocabulary}
-use Rattle.vw_top.specs.Kinds.{planning_for}
-use Rattle.vw_top.specs.Commands.{plan_rest, text_of_plan}
+use Rattle.vw_courses.specs.Messages.{vocabulary}
+use Rattle.vw_courses.specs.Kinds.{planning_for}
+use Rattle.vw_courses.specs.Commands.{plan_rest, text_of_plan}
 use Rattle.vw_top.proofs.plan.plan_placed.Goals as goal
 
 pub returns-in_err-checked : goal.returns-in_err-checked

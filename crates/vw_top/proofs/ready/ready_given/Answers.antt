@@ -2,10 +2,10 @@ use Rattle.std.proofs.Common.{Some}
 use Rattle.std.proofs.lemmas.Result.{err_from_is_err_and}
 use Rattle.vw_course.proofs.PartLaws.{part_past, part_not_past, part_judged}
 use Rattle.vw_plan.specs.PlannedBoard.{planned_board}
-use Rattle.vw_top.specs.Messages.{vocabulary}
-use Rattle.vw_top.specs.Kinds.{plan_kind, soundness}
-use Rattle.vw_top.specs.Commands.{given_sound_course}
-use Rattle.vw_top.specs.Steps.Stages.{cut_there, IsCheckedPlan, IsPlanned}
+use Rattle.vw_courses.specs.Messages.{vocabulary}
+use Rattle.vw_courses.specs.Kinds.{plan_kind, soundness}
+use Rattle.vw_courses.specs.Commands.{given_sound_course}
+use Rattle.vw_top.specs.Stages.{cut_there, IsCheckedPlan, IsPlanned}
 use Rattle.vw_top.proofs.ReadyLaws.{planned_given}
 use Rattle.vw_top.proofs.ready.ready_given.Goals as goal
 

@@ -1,10 +1,10 @@
 use Rattle.std.proofs.Common.{None}
 use Rattle.vw_course.proofs.PartLaws.{part_made}
 use Rattle.vw_run.specs.Compiled.{IsCompiled}
-use Rattle.vw_top.specs.Messages.{vocabulary}
-use Rattle.vw_top.specs.Kinds.{planning}
-use Rattle.vw_top.specs.Commands.{with_plan_course}
-use Rattle.vw_top.specs.Steps.Stages.{cut_there, IsPlanned}
+use Rattle.vw_courses.specs.Messages.{vocabulary}
+use Rattle.vw_courses.specs.Kinds.{planning}
+use Rattle.vw_courses.specs.Commands.{with_plan_course}
+use Rattle.vw_top.specs.Stages.{cut_there, IsPlanned}
 use Rattle.vw_top.proofs.ReadyLaws.{part_as, planned_made}
 use Rattle.vw_top.proofs.ready.ready_made.Goals as goal
 

@@ -4,13 +4,13 @@ use Rattle.std.specs.Option.{option_copied}
 use Rattle.vw_course.specs.declared.unfinished.Unfinished.{Unfinished}
 use Rattle.vw_course.specs.Goes.{EndsPart}
 use Rattle.vw_plan.specs.declared.checked.Checked.{Checked}
-use Rattle.vw_top.specs.declared.vocabulary.File.{File}
-use Rattle.vw_top.specs.declared.vocabulary.Reason.{Reason}
+use Rattle.vw_courses.specs.declared.vocabulary.File.{File}
+use Rattle.vw_courses.specs.declared.vocabulary.Reason.{Reason}
 use Rattle.vw_course.proofs.PartLaws.{part_past, part_not_past}
-use Rattle.vw_top.specs.Messages.{vocabulary}
-use Rattle.vw_top.specs.Kinds.{board_kind}
-use Rattle.vw_top.specs.Commands.{with_plan_course, on_board_course}
-use Rattle.vw_top.specs.Steps.Stages.{cut_there, IsPlanned, IsOnBoard}
+use Rattle.vw_courses.specs.Messages.{vocabulary}
+use Rattle.vw_courses.specs.Kinds.{board_kind}
+use Rattle.vw_courses.specs.Commands.{with_plan_course, on_board_course}
+use Rattle.vw_top.specs.Stages.{cut_there, IsPlanned, IsOnBoard}
 use Rattle.vw_top.proofs.ReadyLaws.{planned_on_board}
 use Rattle.vw_top.proofs.ready.ready_on_board.Goals as goal
 

@@ -7,10 +7,10 @@ use Rattle.vw_course.specs.Goes.{MovedFrom}
 use Rattle.vw_course.specs.Stages.{EndsStage}
 use Rattle.vw_course.proofs.GoesLaws.{goes_on, goes_not_on}
 use Rattle.vw_plan.specs.PlannedBoard.{planned_board}
-use Rattle.vw_top.specs.declared.vocabulary.File.TheVariants as files
-use Rattle.vw_top.specs.Messages.{vocabulary}
-use Rattle.vw_top.specs.Kinds.{state_kind, IsStateOf, IsBadState}
-use Rattle.vw_top.specs.Commands.{state_course}
+use Rattle.vw_courses.specs.declared.vocabulary.File.TheVariants as files
+use Rattle.vw_courses.specs.Messages.{vocabulary}
+use Rattle.vw_courses.specs.Kinds.{state_kind, IsStateOf, IsBadState}
+use Rattle.vw_courses.specs.Commands.{state_course}
 use Rattle.vw_top.proofs.resume.resume_checked.Goals as goal
 
 pub returns-in_err-state-clause-goes : goal.returns-in_err-state-clause-goes

@@ -8,12 +8,12 @@ use Rattle.vw_resume.specs.Resumed.{HaveResumed, resumed_trace, without_state}
 use Rattle.vw_resume.specs.declared.fault.StateFault.TheVariants.{TooManyClocks}
 use Rattle.vw_rows.specs.declared.limits.TheConstants.{MOST_CLOCKS}
 use Rattle.vw_trace.proofs.StreamedTexts.{other_done}
-use Rattle.vw_top.specs.declared.vocabulary.File.{File}
-use Rattle.vw_top.specs.declared.vocabulary.Reason.{Reason}
-use Rattle.vw_top.specs.declared.vocabulary.Reason.TheVariants as reasons
-use Rattle.vw_top.specs.Messages.{vocabulary}
-use Rattle.vw_top.specs.Kinds.{clocks_fit}
-use Rattle.vw_top.specs.Commands.{Scripts, RowCheck, check_by, checked_rows_course, scripts_from, state_course}
+use Rattle.vw_courses.specs.declared.vocabulary.File.{File}
+use Rattle.vw_courses.specs.declared.vocabulary.Reason.{Reason}
+use Rattle.vw_courses.specs.declared.vocabulary.Reason.TheVariants as reasons
+use Rattle.vw_courses.specs.Messages.{vocabulary}
+use Rattle.vw_courses.specs.Kinds.{clocks_fit}
+use Rattle.vw_courses.specs.Commands.{Scripts, RowCheck, check_by, checked_rows_course, scripts_from, state_course}
 use Rattle.vw_top.proofs.StreamedTraces.{goes_unchecked, goes_failing, goes_streaming, stands_held, over_links}
 use Rattle.vw_top.proofs.LinkTraffic.{parts_from, goes_with}
 use Rattle.vw_top.proofs.resume.resume_state.Goals as goal

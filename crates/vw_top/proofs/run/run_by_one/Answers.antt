@@ -3,9 +3,9 @@ use Rattle.std.proofs.lemmas.Result.{err_from_is_err_and}
 use Rattle.std.specs.Option.{option_copied}
 use Rattle.vw_course.specs.Goes.{Unmoved}
 use Rattle.vw_course.proofs.GoesLaws.{unmoved_still}
-use Rattle.vw_top.specs.Messages.{vocabulary}
-use Rattle.vw_top.specs.Commands.{board_course, netlist_trace}
-use Rattle.vw_top.proofs.FlatTraces.{probes_fit}
+use Rattle.vw_courses.specs.Messages.{vocabulary}
+use Rattle.vw_courses.specs.Commands.{board_course, netlist_trace}
+use Rattle.vw_courses.proofs.FlatTraces.{probes_fit}
 use Rattle.vw_top.proofs.ReadyLaws.{goes_unready, goes_ready}
 use Rattle.vw_top.proofs.run.run_by_one.Goals as goal
 

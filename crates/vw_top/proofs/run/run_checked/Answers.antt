@@ -4,8 +4,8 @@ use Rattle.vw_course.specs.Goes.{Unmoved}
 use Rattle.vw_course.proofs.GoesLaws.{unmoved_still}
 use Rattle.vw_run.specs.Runs.{without_count}
 use Rattle.vw_trace.specs.FlatTrace.{flat_trace}
-use Rattle.vw_top.specs.Messages.{vocabulary}
-use Rattle.vw_top.specs.Commands.{netlist_trace, no_links, no_check}
+use Rattle.vw_courses.specs.Messages.{vocabulary}
+use Rattle.vw_courses.specs.Commands.{netlist_trace, no_links, no_check}
 use Rattle.vw_top.proofs.StreamedTraces.{goes_unchecked, goes_streaming, stands_held, no_parts, without_links}
 use Rattle.vw_top.proofs.LinkTraffic.{goes_alone}
 use Rattle.vw_top.proofs.run.run_checked.Goals as goal

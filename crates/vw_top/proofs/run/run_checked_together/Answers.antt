@@ -5,7 +5,7 @@ use Rattle.vw_net.specs.Cells.{start_values}
 use Rattle.vw_plan.specs.PlannedBoard.{planned_board}
 use Rattle.vw_run.specs.Runs.{without_count}
 use Rattle.vw_trace.specs.FlatTrace.{flat_trace}
-use Rattle.vw_top.specs.Commands.{netlist_trace, board_scripts, no_check}
+use Rattle.vw_courses.specs.Commands.{netlist_trace, board_scripts, no_check}
 use Rattle.vw_top.proofs.StreamedTraces.{goes_unchecked, goes_streaming, links_alone, stands_held, over_links}
 use Rattle.vw_top.proofs.LinkTraffic.{parts_from, goes_together}
 use Rattle.vw_top.proofs.run.run_checked_together.Goals as goal

@@ -2,7 +2,7 @@ use Rattle.std.proofs.Common.{refl, sym, ◌∙◌}
 use Rattle.std.proofs.lemmas.Result.{err_from_is_err_and}
 use Rattle.std.specs.Option.{option_copied}
 use Rattle.vw_course.specs.Goes.{MovedFrom}
-use Rattle.vw_top.specs.Commands.{board_course, netlist_state}
+use Rattle.vw_courses.specs.Commands.{board_course, netlist_state}
 use Rattle.vw_top.proofs.ReadyLaws.{goes_unready, goes_ready}
 use Rattle.vw_top.proofs.save.save.Goals as goal
 

@@ -4,7 +4,7 @@ use Rattle.vw_net.specs.Cells.{start_values}
 use Rattle.vw_course.specs.Goes.{MovedFrom}
 use Rattle.vw_plan.specs.PlannedBoard.{planned_board}
 use Rattle.vw_resume.specs.Saved.{saved_text}
-use Rattle.vw_top.specs.Commands.{board_scripts, netlist_state, no_check}
+use Rattle.vw_courses.specs.Commands.{board_scripts, netlist_state, no_check}
 use Rattle.vw_top.proofs.StreamedTraces.{goes_unchecked, goes_streaming, stands_held, links_alone, over_links}
 use Rattle.vw_top.proofs.LinkTraffic.{parts_from, goes_together}
 use Rattle.vw_top.proofs.save.save_checked.Goals as goal

@@ -3,11 +3,12 @@ use Rattle.vw_course.specs.Goes.{Unmoved}
 use Rattle.vw_course.proofs.GoesLaws.{goes_for_each}
 use Rattle.vw_design.specs.Flattened.{IsFlatOf}
 use Rattle.vw_front.specs.Designs.{WatchedDesign, IsNetlistOf}
-use Rattle.vw_top.specs.Messages.{vocabulary}
-use Rattle.vw_top.specs.Kinds.{design_kind}
-use Rattle.vw_top.specs.Commands.{trace_of, netlist_trace, design_course, no_links}
-use Rattle.vw_top.proofs.FlatTraces.{probes_counted, probes_fit}
-use Rattle.vw_top.proofs.StreamedTraces.{traces_agree, goes_of_design}
+use Rattle.vw_courses.specs.Messages.{vocabulary}
+use Rattle.vw_courses.specs.Kinds.{design_kind}
+use Rattle.vw_courses.specs.Commands.{trace_of, netlist_trace, design_course, no_links}
+use Rattle.vw_courses.proofs.FlatTraces.{probes_counted, probes_fit}
+use Rattle.vw_courses.proofs.TextsOfDesigns.{traces_agree}
+use Rattle.vw_top.proofs.StreamedTraces.{goes_of_design}
 use Rattle.vw_top.proofs.sim.sim.Goals as goal
 
 -- the probes are among the outputs

@@ -3,9 +3,9 @@ use Rattle.vw_course.specs.Goes.{Goes, Unmoved}
 use Rattle.vw_course.proofs.GoesLaws.{goes_for_each}
 use Rattle.vw_front.specs.Designs.{WatchedDesign}
 use Rattle.vw_front.specs.NamedNetlists.{IsNamedNetlistOf}
-use Rattle.vw_top.specs.Messages.{vocabulary}
-use Rattle.vw_top.specs.Kinds.{design_kind}
-use Rattle.vw_top.specs.Commands.{design_course, no_links, wave_of}
+use Rattle.vw_courses.specs.Messages.{vocabulary}
+use Rattle.vw_courses.specs.Kinds.{design_kind}
+use Rattle.vw_courses.specs.Commands.{design_course, no_links, wave_of}
 use Rattle.vw_top.proofs.wave.wave.Goals as goal
 
 pub wave_signals-requires : goal.wave_signals-requires

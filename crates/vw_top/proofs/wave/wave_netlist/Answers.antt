@@ -2,8 +2,8 @@ use Rattle.std.proofs.Common.{refl}
 use Rattle.std.proofs.lemmas.Result.{err_from_is_err_and}
 use Rattle.vw_course.specs.Goes.{Unmoved}
 use Rattle.vw_course.proofs.GoesLaws.{unmoved_still}
-use Rattle.vw_top.specs.Messages.{vocabulary}
-use Rattle.vw_top.specs.Commands.{no_links, no_check}
+use Rattle.vw_courses.specs.Messages.{vocabulary}
+use Rattle.vw_courses.specs.Commands.{no_links, no_check}
 use Rattle.vw_wave.specs.FlatWave.{flat_wave}
 use Rattle.vw_top.proofs.StreamedTraces.{goes_unchecked, goes_streaming, stands_held, no_parts, without_links}
 use Rattle.vw_top.proofs.wave.wave_netlist.Goals as goal

@@ -5,9 +5,9 @@ use Rattle.vw_course.proofs.GoesLaws.{unmoved_still}
 use Rattle.vw_design.specs.Paths.{Word}
 use Rattle.vw_net.specs.declared.ordered.Ordered.{Ordered}
 use Rattle.vw_front.specs.Names.{signal_names}
-use Rattle.vw_top.specs.Messages.{vocabulary}
-use Rattle.vw_top.specs.Commands.{netlist_course, netlist_wave, no_links, wave_of, no_check}
-use Rattle.vw_top.proofs.FlatTraces.{wave_same}
+use Rattle.vw_courses.specs.Messages.{vocabulary}
+use Rattle.vw_courses.specs.Commands.{netlist_course, netlist_wave, no_links, wave_of, no_check}
+use Rattle.vw_courses.proofs.FlatTraces.{wave_same}
 use Rattle.vw_top.proofs.StreamedTraces.{goes_unchecked, goes_of_design}
 use Rattle.vw_top.proofs.wave.wave_signals.Goals as goal
 

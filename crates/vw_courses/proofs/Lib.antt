@@ -1,0 +1,4 @@
+pub mod FlatTraces
+pub mod FoundVerbs
+pub mod RowChecks
+pub mod TextsOfDesigns

@@ -1,0 +1,40 @@
+-- Texts of netlists as those of their designs.
+use Rattle.std.proofs.Common.{◌≡◌, ℕ, Bool, List, length, sym, subst}
+use Rattle.std.proofs.Math.Path.{fun_ext}
+use Rattle.vw_net.specs.declared.ordered.Ordered.{Ordered}
+use Rattle.vw_design.specs.Flattened.{IsFlatOf}
+use Rattle.vw_design.specs.Paths.{Word as ProbeWord}
+use Rattle.vw_front.specs.Designs.{WatchedDesign}
+use Rattle.vw_course.specs.Course.{Course}
+use Rattle.vw_courses.specs.Messages.{vocabulary}
+use Rattle.vw_courses.specs.Commands.{trace_of, netlist_trace, saved_of, netlist_state, TextOver, Scripts, rows_course, design_course, netlist_course}
+use Rattle.vw_courses.proofs.FlatTraces.{trace_same, saved_same}
+
+-- a text of netlists is that of the designs of which they are
+abbrev pub IsTextOfDesigns : List ProbeWord → TextOver WatchedDesign → TextOver Ordered → Type 0
+IsTextOfDesigns probes text flat_text = (watched : WatchedDesign) (ordered : Ordered) → IsFlatOf watched.design watched.nets ordered.flat → length probes ≡ length watched.nets
+    → (rows : List (List Bool)) → flat_text ordered rows ≡ text watched rows
+
+-- so are traces
+pub traces_agree : (probes : List ProbeWord) (unknown : Bool) → IsTextOfDesigns probes (trace_of unknown) (netlist_trace (length probes) unknown)
+traces_agree probes unknown watched ordered is counted rows = trace_same unknown (length probes) watched ordered.flat is counted rows
+
+-- and so are saved states
+pub saved_agree : (probes : List ProbeWord) (unknown : Bool) → IsTextOfDesigns probes (saved_of unknown) (netlist_state unknown)
+saved_agree probes unknown watched ordered is counted rows = saved_same unknown watched ordered is rows
+
+module _ (F : Course vocabulary → Type 0) (stimulus : List ℕ) (text : TextOver WatchedDesign) (flat_text : TextOver Ordered) (scripts : Scripts) (watched : WatchedDesign) (ordered : Ordered) (is : IsFlatOf watched.design watched.nets ordered.flat)
+    (same : (rows : List (List Bool)) → flat_text ordered rows ≡ text watched rows) where
+  texts_same : flat_text ordered ≡ text watched
+  texts_same = fun_ext same
+
+  -- the course of a netlist is that of its design
+  pub of_design : F (netlist_course stimulus flat_text scripts ordered) → F (design_course stimulus text scripts watched)
+  of_design of =
+      subst (λ (width : ℕ). F (rows_course stimulus width (text watched) scripts)) is.inputs
+      (subst (λ (its : List (List Bool) → List ℕ). F (rows_course stimulus ordered.flat.inputs its scripts)) texts_same of)
+
+  pub of_netlist : F (design_course stimulus text scripts watched) → F (netlist_course stimulus flat_text scripts ordered)
+  of_netlist of =
+      subst (λ (its : List (List Bool) → List ℕ). F (rows_course stimulus ordered.flat.inputs its scripts)) (sym texts_same)
+      (subst (λ (width : ℕ). F (rows_course stimulus width (text watched) scripts)) (sym is.inputs) of)

@@ -1,0 +1,327 @@
+-- The course of each command.
+use Rattle.std.specs.Prelude.{◌≡◌, ◌++◌, ℕ, Bool, false, List, [], ◌∷◌, length, codes, Option, Some, None}
+use Rattle.std.specs.List.{All}
+use Rattle.std.specs.Fmt.{decimal}
+use Rattle.vw_net.specs.declared.flat.Flat.{Flat}
+use Rattle.vw_net.specs.declared.ordered.Ordered.{Ordered}
+use Rattle.vw_net.specs.Cells.{latch_count, start_values}
+use Rattle.vw_design.specs.Paths.{Word as ProbeWord}
+use Rattle.vw_design.specs.Preorder.{latches}
+use Rattle.vw_design.specs.NetReads.{root_outputs}
+use Rattle.vw_design.specs.Clocks.{columns}
+use Rattle.vw_design.specs.PathHistory.{path_history}
+use Rattle.vw_front.specs.Designs.{WatchedDesign}
+use Rattle.vw_front.specs.Names.{signal_names}
+use Rattle.vw_front.specs.declared.named.NamedNetlist.{NamedNetlist}
+use Rattle.vw_fault.specs.Text.{grading_text}
+use Rattle.vw_listing.specs.Netlist.{netlist_text}
+use Rattle.vw_course.specs.Course.{again, Course, works, refuses, writes, Judged, judges, made, stage}
+use Rattle.vw_course.specs.OnTexts.{on_texts}
+use Rattle.vw_plan.specs.declared.board.Board.{Board}
+use Rattle.vw_plan.specs.declared.plan.Plan.{Plan}
+use Rattle.vw_plan.specs.PlannedBoard.{PlannedBoard, planned_board}
+use Rattle.vw_plan.specs.HopCounts.{hop_count}
+use Rattle.vw_plantext.specs.Content.{content_of}
+use Rattle.vw_plantext.specs.Grammar.{spelling}
+use Rattle.vw_prog.specs.declared.word.Word.{Word}
+use Rattle.vw_boardtext.specs.Emitted.{emitted_text}
+use Rattle.vw_resume.specs.declared.state.State.{State}
+use Rattle.vw_resume.specs.States.{state_text}
+use Rattle.vw_resume.specs.Resumed.{resumed_trace}
+use Rattle.vw_resume.specs.Saved.{saved_text}
+use Rattle.vw_rows.specs.Trace.{trace_text}
+use Rattle.vw_batches.specs.Traffic.{scripts_of, words_from}
+use Rattle.vw_trace.specs.FlatTrace.{flat_trace}
+use Rattle.vw_vcd.specs.Lines.{wave_text}
+use Rattle.vw_wave.specs.FlatWave.{flat_wave, signal_rows}
+use Rattle.vw_courses.specs.declared.vocabulary.File.TheVariants as files
+use Rattle.vw_courses.specs.declared.vocabulary.Reason.TheVariants.{Usage}
+use Rattle.vw_courses.specs.Words.{Spelled}
+use Rattle.vw_courses.specs.Words as words
+use Rattle.vw_courses.specs.Help.{help_text, version_text}
+use Rattle.vw_courses.specs.Demo.{board_name, design_name, generated, stimulus_name}
+use Rattle.vw_gen.specs.Summary.{summary}
+use Rattle.vw_courses.specs.Messages.{vocabulary, CallWork}
+use Rattle.vw_courses.specs.Kinds.{design_kind, netlist_kind, named_kind, rows_kind, IsBadAgain, board_kind, plan_kind, chips_kind, soundness, planning, planning_for, emission, state_kind, clocks_fit}
+
+-- ---- traces
+
+-- the trace of a design with watched nets over rows, where free latches start at `unknown`
+abbrev pub trace_of : Bool → WatchedDesign → List (List Bool) → List ℕ
+trace_of unknown watched rows =
+    trace_text (length (root_outputs watched.design)) (length watched.nets) (length (latches watched.design))
+    (path_history watched.design watched.nets unknown rows)
+
+-- the words that each link carries for such rows, where links are used; and no links
+abbrev pub Scripts : Type 0
+Scripts = List (List Bool) → Option (ℕ → List Word)
+
+abbrev pub no_links : Scripts
+no_links rows = None
+
+-- a trace is written, and links carry their words meanwhile
+abbrev pub tracing : (List (List Bool) → List ℕ) → Scripts → List (List Bool) → CallWork
+tracing trace scripts rows = record { text = trace rows; scripts = scripts rows }
+
+-- so over some rows of this width
+abbrev pub IsSomeTrace : ℕ → (List (List Bool) → List ℕ) → Scripts → CallWork → Type 0
+IsSomeTrace width trace scripts did =
+    (rows : List (List Bool)) × All (λ row. length row ≡ width) rows × (did ≡ tracing trace scripts rows)
+
+-- the trace over the rows of the stimulus is written, while it is read again
+abbrev pub trace_course : List ℕ → ℕ → (List (List Bool) → List ℕ) → Scripts → List (List Bool) → Course vocabulary
+trace_course stimulus width trace scripts rows =
+    works (again files.Stimulus stimulus IsBadAgain (IsSomeTrace width trace scripts)) (tracing trace scripts rows)
+
+-- what the rows of a stimulus have to be, once they are known, before a text of them is written: anything, or what is judged
+-- so
+pub data RowCheck : Type 1 where
+  no_check : RowCheck
+  check_by : (List (List Bool) → Judged vocabulary (Unit {0}) 11) → RowCheck
+
+abbrev pub with_check : RowCheck → (List (List Bool) → Course vocabulary) → List (List Bool) → Course vocabulary
+with_check no_check next = next
+with_check (check_by judged) next = λ rows. judges (judged rows) (λ done. next rows)
+
+-- the stimulus is read before, which has rows of this width
+abbrev pub checked_rows_course : List ℕ → ℕ → RowCheck → (List (List Bool) → List ℕ) → Scripts → Course vocabulary
+checked_rows_course stimulus width check trace scripts =
+    stage (rows_kind width) stimulus (with_check check (trace_course stimulus width trace scripts))
+
+abbrev pub rows_course : List ℕ → ℕ → (List (List Bool) → List ℕ) → Scripts → Course vocabulary
+rows_course stimulus width trace scripts = checked_rows_course stimulus width no_check trace scripts
+
+-- a text of each thing that is run over rows
+abbrev pub TextOver : Type 0 → Type 0
+TextOver Thing = Thing → List (List Bool) → List ℕ
+
+-- so for a design, and for a netlist
+abbrev pub design_course : List ℕ → TextOver WatchedDesign → Scripts → WatchedDesign → Course vocabulary
+design_course stimulus text scripts watched =
+    rows_course stimulus (length (columns watched.design)) (text watched) scripts
+
+abbrev pub netlist_course : List ℕ → TextOver Ordered → Scripts → Ordered → Course vocabulary
+netlist_course stimulus text scripts ordered = rows_course stimulus ordered.flat.inputs (text ordered) scripts
+
+-- the trace of a netlist of which so many last outputs are probes
+abbrev pub netlist_trace : ℕ → Bool → TextOver Ordered
+netlist_trace count unknown ordered = flat_trace count unknown ordered.flat
+
+-- ---- sim
+
+-- the design first, with its probes, and no links are used
+abbrev pub over_design_course : List ProbeWord → List ℕ → List ℕ → TextOver WatchedDesign → Course vocabulary
+over_design_course probes design stimulus text = stage (design_kind probes) design (design_course stimulus text no_links)
+
+abbrev pub sim_course : List ProbeWord → List ℕ → List ℕ → Bool → Course vocabulary
+sim_course probes design stimulus unknown = over_design_course probes design stimulus (trace_of unknown)
+
+-- ---- wave
+
+-- the wave of a design with watched nets over rows, with the names of its signals, where free latches start at `unknown`
+abbrev pub wave_of : List ProbeWord → Bool → TextOver WatchedDesign
+wave_of probes unknown watched rows =
+    wave_text (signal_names probes watched.design) (signal_rows (path_history watched.design watched.nets unknown rows))
+
+-- the same of a netlist whose signals have these names
+abbrev pub netlist_wave : List ProbeWord → Bool → TextOver Ordered
+netlist_wave names unknown ordered = flat_wave names unknown ordered.flat
+
+abbrev pub wave_course : List ProbeWord → List ℕ → List ℕ → Bool → Course vocabulary
+wave_course probes design stimulus unknown = over_design_course probes design stimulus (wave_of probes unknown)
+
+-- ---- grade
+
+-- the grading of a netlist whose nets are printed so over rows, where free latches start at `unknown`
+abbrev pub flat_grading : List ProbeWord → Bool → Flat → List (List Bool) → List ℕ
+flat_grading names unknown flat rows = grading_text names flat (start_values unknown flat.cells) rows
+
+-- that of the netlist of a design, with its names. It knows nothing of workers
+abbrev pub grading_of : Bool → TextOver NamedNetlist
+grading_of unknown named = flat_grading named.nets unknown named.ordered.flat
+
+-- it is written over the rows of the stimulus
+abbrev pub grading_course : List ℕ → Bool → NamedNetlist → Course vocabulary
+grading_course stimulus unknown named = rows_course stimulus named.ordered.flat.inputs (grading_of unknown named) no_links
+
+-- the design first; no net is watched
+abbrev pub grade_course : List ℕ → List ℕ → Bool → Course vocabulary
+grade_course design stimulus unknown = stage (named_kind []) design (grading_course stimulus unknown)
+
+-- ---- nets
+
+-- the netlist of a design as a text, with its names, where the probes are its last outputs
+abbrev pub nets_text : List ProbeWord → NamedNetlist → List ℕ
+nets_text probes named = netlist_text named.nets (named.outputs ++ probes) named.ordered.flat
+
+-- it is written, whatever the order of the gates
+abbrev pub nets_writing : List ProbeWord → NamedNetlist → Course vocabulary
+nets_writing probes named = writes (nets_text probes named)
+
+abbrev pub nets_course : List ProbeWord → List ℕ → Course vocabulary
+nets_course probes design = stage (named_kind probes) design (nets_writing probes)
+
+-- ---- what comes behind a planned board
+
+abbrev pub Rest : Type 1
+Rest = Ordered → Board → Plan → Course vocabulary
+
+-- a plan that is given is judged
+abbrev pub given_sound_course : Rest → Ordered → Board → Plan → Course vocabulary
+given_sound_course rest ordered board plan =
+    judges (soundness (planned_board ordered board plan)) (λ done. rest ordered board plan)
+
+-- a plan is made, which is good; or one is given, and read before it is judged
+abbrev pub with_plan_course : Option (List ℕ) → Rest → Ordered → Board → Course vocabulary
+with_plan_course None rest ordered board = made (planning ordered board) (rest ordered board)
+with_plan_course (Some plan) rest ordered board = stage plan_kind plan (given_sound_course rest ordered board)
+
+-- the board before it
+abbrev pub on_board_course : List ℕ → Option (List ℕ) → Rest → Ordered → Course vocabulary
+on_board_course board given rest ordered = stage board_kind board (with_plan_course given rest ordered)
+
+-- the design first
+abbrev pub ready_course : List ProbeWord → List ℕ → List ℕ → Option (List ℕ) → Rest → Course vocabulary
+ready_course probes design board given rest = stage (netlist_kind probes) design (on_board_course board given rest)
+
+-- ---- check
+
+-- what is written of a sound plan: its wires, its hops, and its period
+abbrev pub sound_text : Plan → List ℕ
+sound_text plan =
+    codes "sound " ++ (decimal (length plan.wires)
+    ++ (32 ∷ decimal (hop_count plan.wires) ++ (32 ∷ decimal plan.period ++ 10 ∷ [])))
+
+abbrev pub size_rest : Rest
+size_rest ordered board plan = writes (sound_text plan)
+
+abbrev pub check_course : List ProbeWord → List ℕ → List ℕ → List ℕ → Course vocabulary
+check_course probes design board plan = ready_course probes design board (Some plan) size_rest
+
+-- ---- plan
+
+-- the text of a plan
+abbrev pub text_of_plan : Plan → List ℕ
+text_of_plan plan = spelling (content_of plan)
+
+abbrev pub plan_rest : Rest
+plan_rest ordered board plan = writes (text_of_plan plan)
+
+abbrev pub plan_course : List ProbeWord → List ℕ → List ℕ → Course vocabulary
+plan_course probes design board = ready_course probes design board None plan_rest
+
+-- the same for given chips: they are read behind the board, and then a plan with them is made
+abbrev pub placed_course : Ordered → Board → List ℕ → Course vocabulary
+placed_course ordered board chips = made (planning_for ordered board chips) (plan_rest ordered board)
+
+abbrev pub chips_course : List ℕ → Ordered → Board → Course vocabulary
+chips_course chips ordered board = stage chips_kind chips (placed_course ordered board)
+
+abbrev pub chips_on_board_course : List ℕ → List ℕ → Ordered → Course vocabulary
+chips_on_board_course board chips ordered = stage board_kind board (chips_course chips ordered)
+
+abbrev pub plan_for_course : List ProbeWord → List ℕ → List ℕ → List ℕ → Course vocabulary
+plan_for_course probes design board chips = stage (netlist_kind probes) design (chips_on_board_course board chips)
+
+-- where they are given
+abbrev pub plan_with_course : List ProbeWord → List ℕ → List ℕ → Option (List ℕ) → Course vocabulary
+plan_with_course probes design board None = plan_course probes design board
+plan_with_course probes design board (Some chips) = plan_for_course probes design board chips
+
+-- ---- emit
+
+-- the planned board is written as a design, where this is within the limits of designs
+abbrev pub emit_rest : Rest
+emit_rest ordered board plan =
+    judges (emission (planned_board ordered board plan)) (λ done. writes (emitted_text (planned_board ordered board plan)))
+
+abbrev pub emit_course : List ℕ → List ℕ → Option (List ℕ) → Course vocabulary
+emit_course design board given = ready_course [] design board given emit_rest
+
+-- ---- run
+
+-- the words that the links of a planned board carry from a clock and latch values on: none with one worker, which uses no
+-- link
+abbrev pub scripts_from : ℕ → PlannedBoard → ℕ → List Bool → Scripts
+scripts_from workers planned first state rows = scripts_of workers (λ link. words_from planned link first state rows)
+
+-- the same from the beginning
+abbrev pub board_scripts : ℕ → Bool → PlannedBoard → Scripts
+board_scripts workers unknown planned = scripts_from workers planned 0 (start_values unknown planned.ordered.flat.cells)
+
+-- a planned board runs: what is written is a text of its netlist, which knows no plan
+abbrev pub board_course : List ℕ → TextOver Ordered → ℕ → Bool → Rest
+board_course stimulus text workers unknown ordered board plan =
+    netlist_course stimulus text (board_scripts workers unknown (planned_board ordered board plan)) ordered
+
+-- such a board is made ready before
+abbrev pub over_rows_course : List ProbeWord → List ℕ → List ℕ → Option (List ℕ) → List ℕ → TextOver Ordered → ℕ → Bool → Course vocabulary
+over_rows_course probes design board given stimulus text workers unknown =
+    ready_course probes design board given (board_course stimulus text workers unknown)
+
+abbrev pub run_course : List ProbeWord → List ℕ → List ℕ → Option (List ℕ) → List ℕ → ℕ → Bool → Course vocabulary
+run_course probes design board given stimulus workers unknown =
+    over_rows_course probes design board given stimulus (netlist_trace (length probes) unknown) workers unknown
+
+-- ---- save
+
+-- the state after the rows, from the start values on, where free latches start at `unknown`
+abbrev pub saved_of : Bool → TextOver WatchedDesign
+saved_of unknown watched rows = state_text (length rows) (path_history watched.design watched.nets unknown rows).last
+
+-- the same of a netlist
+abbrev pub netlist_state : Bool → TextOver Ordered
+netlist_state unknown ordered = saved_text unknown ordered.flat
+
+abbrev pub save_course : List ℕ → List ℕ → Option (List ℕ) → List ℕ → ℕ → Bool → Course vocabulary
+save_course design board given stimulus workers unknown =
+    over_rows_course [] design board given stimulus (netlist_state unknown) workers unknown
+
+-- ---- resume
+
+-- a planned board goes on from a state, where the clocks of the state and of the rows aren't too many together
+abbrev pub state_course : List ℕ → ℕ → PlannedBoard → State → Course vocabulary
+state_course stimulus workers planned state =
+    checked_rows_course stimulus planned.ordered.flat.inputs (check_by (clocks_fit state.clock))
+    (resumed_trace planned.ordered.flat state.clock state.latches) (scripts_from workers planned state.clock state.latches)
+
+-- the state of the design is read before
+abbrev pub resume_rest : List ℕ → List ℕ → ℕ → Rest
+resume_rest state stimulus workers ordered board plan =
+    stage (state_kind (latch_count ordered.flat.cells)) state (state_course stimulus workers (planned_board ordered board plan))
+
+abbrev pub resume_course : List ℕ → List ℕ → Option (List ℕ) → List ℕ → List ℕ → ℕ → Course vocabulary
+resume_course design board given state stimulus workers = ready_course [] design board given (resume_rest state stimulus workers)
+
+-- ---- demo
+
+-- the run of a demo: no net is watched, and free latches start at 0
+abbrev pub demo_run : ℕ → Course vocabulary
+demo_run workers = run_course [] design_name board_name None stimulus_name workers false
+
+-- it goes over the generated texts, and a summary of its trace is written
+abbrev pub demo_course : ℕ → ℕ → Course vocabulary
+demo_course cells workers = on_texts (generated cells) (summary cells) (demo_run workers)
+
+-- ---- all commands
+
+-- words that spell no command: the first wrong one is at this place
+abbrev pub usage_course : ℕ → Course vocabulary
+usage_course place = refuses (Usage place)
+
+abbrev pub course_of : Spelled → Course vocabulary
+course_of (words.sim design stimulus unknown probes) = sim_course probes design stimulus unknown
+course_of (words.check design board plan probes) = check_course probes design board plan
+course_of (words.plan design board chips probes) = plan_with_course probes design board chips
+course_of (words.run design board stimulus given workers unknown probes) =
+    run_course probes design board given stimulus workers unknown
+course_of (words.demo cells workers) = demo_course cells workers
+course_of (words.wave design stimulus unknown probes) = wave_course probes design stimulus unknown
+course_of (words.grade design stimulus workers unknown) = grade_course design stimulus unknown
+course_of (words.nets design probes) = nets_course probes design
+course_of (words.save design board stimulus given workers unknown) = save_course design board given stimulus workers unknown
+course_of (words.resume design board state stimulus given workers) = resume_course design board given state stimulus workers
+course_of (words.emit design board given) = emit_course design board given
+course_of words.help = writes help_text
+course_of words.version = writes version_text
+course_of (words.nothing place) = usage_course place

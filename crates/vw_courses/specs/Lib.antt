@@ -1,0 +1,9 @@
+pub mod Commands
+pub mod Demo
+pub mod Help
+pub mod Kinds
+pub mod MayPlan
+pub mod Messages
+pub mod OnBoards
+pub mod Steps
+pub mod Words

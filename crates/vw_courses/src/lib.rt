@@ -1,0 +1,12 @@
+//! What the words of a command spell, and which course each command takes: the files that it reads, the reasons for which it
+//! refuses, and what it writes.
+#![tactic(auto)]
+
+mod forms;
+mod size;
+mod vocabulary;
+mod words;
+
+pub use size::Size;
+pub use vocabulary::{File, Reason, Unfinished};
+pub use words::{Command, command_of, probes_of};

@@ -1,0 +1,5 @@
+use Rattle.vw_statuses.proofs.ResumeLaws.{resume_table}
+use Rattle.vw_statuses.proofs.statuses.resume_statuses.Goals as goal
+
+pub returns : goal.returns
+returns c = λ design board state stimulus given workers call. resume_table design board given state stimulus workers call

@@ -1,0 +1,14 @@
+-- A run that is cut in pieces.
+use Rattle.std.specs.Prelude.{◌≤◌, ◌++◌, ℕ, Bool, List, [], length}
+use Rattle.vw_front.specs.Designs.{WatchedDesign, IsWatchedDesignOf}
+use Rattle.vw_resume.specs.Joined.{IsJoined}
+use Rattle.vw_rows.specs.declared.limits.TheConstants.{MOST_CLOCKS}
+use Rattle.vw_courses.specs.Commands.{trace_of, saved_of}
+use Rattle.vw_statuses.specs.ResumeStatuses.{Resumption, AreResumed, trace_from_state}
+
+-- what `run` writes of the first rows, and behind it, without the lines between them, what `resume` writes of the others from
+-- the state that `save` writes of the first, is what `run` writes of all
+abbrev pub PiecesJoin : Type 0
+PiecesJoin = (unknown : Bool) (d : List ℕ) (spelled : WatchedDesign) (rows more : List (List Bool)) (its : Resumption)
+    → IsWatchedDesignOf [] d spelled → length rows ≤ MOST_CLOCKS → AreResumed (record { design = d; state = saved_of unknown spelled rows }) its
+    → IsJoined (trace_of unknown spelled rows) (trace_from_state its more) (trace_of unknown spelled (rows ++ more))

@@ -1,0 +1,211 @@
+//! Laws of the commands, as contracts of functions that do nothing.
+ghost use Rattle.std.specs.Prelude.{◌≡◌, ◌≤◌, ℕ, Bool, false, List, [], Option, length};
+ghost use Rattle.vw_words.specs.FirstWrong.{IsFirstWrong};
+ghost use Rattle.vw_words.specs.Matched.{first_wrong};
+ghost use Rattle.vw_design.specs.Paths.{Word};
+ghost use Rattle.vw_course.specs.Endings.{IsCallOf};
+ghost use Rattle.vw_course.specs.Statuses.{Holds, Statuses};
+ghost use Rattle.vw_courses.specs.Words.{Spelled, command_forms, help, spelled_by, uses_links, version};
+ghost use Rattle.vw_courses.specs.Commands.{check_course, course_of, demo_course, emit_course, grade_course, nets_course, plan_course, plan_for_course, resume_course, run_course, save_course, saved_of, sim_course, trace_of, usage_course, wave_course, wave_of};
+ghost use Rattle.vw_courses.specs.Messages.{Call};
+ghost use Rattle.vw_statuses.specs.Headline.{Headline, WritesTrace};
+ghost use Rattle.vw_statuses.specs.Promises.{Promise};
+ghost use Rattle.vw_statuses.specs.WaveLaw.{WavesReplay};
+ghost use Rattle.vw_statuses.specs.UsageStatuses.{UsageStatuses};
+ghost use Rattle.vw_statuses.specs.SimStatuses.{GradeStatuses, SimStatuses};
+ghost use Rattle.vw_statuses.specs.NetsStatuses.{NetsStatuses};
+ghost use Rattle.vw_statuses.specs.CheckStatuses.{CheckStatuses};
+ghost use Rattle.vw_statuses.specs.EmittedBoards.{BoardsShow};
+ghost use Rattle.vw_statuses.specs.EmitStatuses.{EmitStatuses};
+ghost use Rattle.vw_statuses.specs.PlanStatuses.{PlanStatuses};
+ghost use Rattle.vw_statuses.specs.PlanForStatuses.{PlanForStatuses};
+ghost use Rattle.vw_statuses.specs.RunStatuses.{RunStatuses};
+ghost use Rattle.vw_statuses.specs.Pieces.{PiecesJoin};
+ghost use Rattle.vw_statuses.specs.ResumeStatuses.{ResumeStatuses};
+ghost use Rattle.vw_statuses.specs.ConstantStatuses.{ConstantStatuses};
+ghost use Rattle.vw_courses.specs.Help.{help_text, version_text};
+ghost use Rattle.vw_statuses.specs.DemoStatuses.{DemoStatuses};
+
+use vw_emit::emitted_texts_show_their_designs;
+use vw_resume::traces_join;
+use vw_wave::waves_of_runs_replay;
+use vw_words::wrong_words_follow_the_longest_front;
+
+/// The headline. Whatever the board, the plan and the number of workers, and in whatever order the workers have run: where
+/// the texts of design and stimulus are held and the status of `run` is 0, out has exactly the trace of the unpartitioned
+/// design, with the nets that the probes find, over the rows of the stimulus.
+pub fn headline()
+    ensures followed { (probes : List Word) (design board stimulus : List ℕ) (given : Option (List ℕ))
+        (workers : ℕ) (unknown : Bool)
+        (call : Call) → IsCallOf (run_course probes design board given stimulus workers unknown) call
+        → (d s : List ℕ) → Holds call design d → Holds call stimulus s
+        → call.status ≡ 0 → WritesTrace probes unknown d s call.before.out call.after.out }
+    ensures spelled { (words : List (List ℕ)) (call : Call) → IsCallOf (course_of (spelled_by words)) call
+        → Headline words call.before.shelf.told call.before.out call.after.out call.status }
+{}
+
+/// What each command has written where it ends with status 0, by its words and its files alone.
+pub fn promises()
+    ensures { (spelled : Spelled) (call : Call) → IsCallOf (course_of spelled) call → call.status ≡ 0
+        → Promise spelled call.before.shelf.told call.before.out call.after.out }
+{
+    emitted_boards_show_designs();
+}
+
+/// What each status of a call means, when it comes, what it leaves, and which message it has, whatever the words spell.
+pub fn call_statuses()
+    ensures { (spelled : Spelled) (call : Call) → IsCallOf (course_of spelled) call
+        → Statuses (course_of spelled) call }
+{}
+
+/// What each status of `sim` says of its files.
+pub fn sim_statuses()
+    ensures { (probes : List Word) (design stimulus : List ℕ) (unknown : Bool) (call : Call)
+        → IsCallOf (sim_course probes design stimulus unknown) call
+        → SimStatuses probes (trace_of unknown) design stimulus call }
+{}
+
+/// What each status of `wave` says of its files: after status 0, out has the wave of the design.
+pub fn wave_statuses()
+    ensures { (probes : List Word) (design stimulus : List ℕ) (unknown : Bool) (call : Call)
+        → IsCallOf (wave_course probes design stimulus unknown) call
+        → SimStatuses probes (wave_of probes unknown) design stimulus call }
+{}
+
+/// What a viewer finds in the wave of a design, with 64 probes at most: at each clock each output, probe and latch has its
+/// bit, the last time is the number of clocks, and each value behind the first block is a change.
+pub fn waves_show_designs()
+    ensures { WavesReplay }
+{
+    waves_of_runs_replay();
+}
+
+/// What each status of `grade` says of its files, whatever the number of workers: after status 0, out has the grading of the
+/// netlist of the design.
+pub fn grade_statuses()
+    ensures { (design stimulus : List ℕ) (unknown : Bool) (call : Call)
+        → IsCallOf (grade_course design stimulus unknown) call
+        → GradeStatuses unknown design stimulus call }
+{}
+
+/// What each status of `nets` says of its design: after status 0, out has the text of its netlist.
+pub fn nets_statuses()
+    ensures { (probes : List Word) (design : List ℕ) (call : Call)
+        → IsCallOf (nets_course probes design) call → NetsStatuses probes design call }
+{}
+
+/// What each status of `check` says of its files, with 64 probes at most.
+pub fn check_statuses()
+    ensures { (probes : List Word) → length probes ≤ 64 → (design board plan : List ℕ) (call : Call)
+        → IsCallOf (check_course probes design board plan) call
+        → CheckStatuses probes design board plan call }
+{}
+
+/// What each status of `plan` says of its files, with 64 probes at most.
+pub fn plan_statuses()
+    ensures { (probes : List Word) → length probes ≤ 64 → (design board : List ℕ) (call : Call)
+        → IsCallOf (plan_course probes design board) call
+        → PlanStatuses probes design board call }
+{}
+
+/// What each status of `plan` for given chips says of its files, with 64 probes at most: after status 0, out has the text of
+/// a sound plan with exactly these chips.
+pub fn plan_for_statuses()
+    ensures { (probes : List Word) → length probes ≤ 64 → (design board chips : List ℕ) (call : Call)
+        → IsCallOf (plan_for_course probes design board chips) call
+        → PlanForStatuses probes design board chips call }
+{}
+
+/// What each status of `run` says of its files, with 64 probes at most, where it is given a plan and where it makes one: after
+/// status 0 the plan is sound, or good, and out has the trace of the unpartitioned design; with several workers each link has
+/// carried exactly its words of that plan.
+pub fn run_statuses()
+    ensures { (probes : List Word) → length probes ≤ 64
+        → (design board stimulus : List ℕ) (given : Option (List ℕ)) (workers : ℕ) (unknown : Bool)
+        (call : Call) → IsCallOf (run_course probes design board given stimulus workers unknown) call
+        → RunStatuses probes (trace_of unknown) design board given stimulus workers unknown call }
+{}
+
+/// What each status of `save` says of its files, where it is given a plan and where it makes one: after status 0, out has the
+/// state of the unpartitioned design after all rows; with several workers each link has carried exactly its words.
+pub fn save_statuses()
+    ensures { (design board stimulus : List ℕ) (given : Option (List ℕ)) (workers : ℕ)
+        (unknown : Bool) (call : Call)
+        → IsCallOf (save_course design board given stimulus workers unknown) call
+        → RunStatuses [] (saved_of unknown) design board given stimulus workers unknown call }
+{}
+
+/// What each status of `resume` says of its files, where it is given a plan and where it makes one: after status 0, out has the
+/// trace of the unpartitioned design from the state on; with several workers each link has carried exactly its words.
+pub fn resume_statuses()
+    ensures { (design board state stimulus : List ℕ) (given : Option (List ℕ)) (workers : ℕ)
+        (call : Call)
+        → IsCallOf (resume_course design board given state stimulus workers) call
+        → ResumeStatuses design board given state stimulus workers call }
+{}
+
+/// A run that is cut in pieces: what `run` writes of the first rows, joined line by line with what `resume` writes of the others
+/// from the state that `save` writes of the first, is what `run` writes of all. No board, plan or number of workers counts.
+pub fn pieces_join()
+    ensures { PiecesJoin }
+{
+    traces_join();
+}
+
+/// What `emit` writes, by a plan that is given or by one that it makes, spells a design that runs. Simulated by any
+/// tool, with each row held for one clock more than the period, it shows in the last of these clocks the outputs of the
+/// design and then the values of its latches before the step.
+pub fn emitted_boards_show_designs()
+    ensures { BoardsShow }
+{
+    emitted_texts_show_their_designs();
+}
+
+/// What each status of `emit` says of its files, where it is given a plan and where it makes one: after status 0, out
+/// has a design that runs and shows the design of the text.
+pub fn emit_statuses()
+    ensures { (design board : List ℕ) (given : Option (List ℕ)) (call : Call)
+        → IsCallOf (emit_course design board given) call
+        → EmitStatuses design board given call }
+{
+    emitted_boards_show_designs();
+}
+
+/// What each status of `demo` says of its texts: after status 0, out has the summary of the trace of the unpartitioned
+/// generated design, and with several workers each link has carried exactly its words of one good plan.
+pub fn demo_statuses()
+    ensures { (cells workers : ℕ) (call : Call) → IsCallOf (demo_course cells workers) call
+        → DemoStatuses cells workers call }
+{}
+
+/// What each status of `--help` says.
+pub fn help_statuses()
+    ensures { (call : Call) → IsCallOf (course_of help) call → ConstantStatuses help_text call }
+{}
+
+/// What each status of `--version` says.
+pub fn version_statuses()
+    ensures { (call : Call) → IsCallOf (course_of version) call
+        → ConstantStatuses version_text call }
+{}
+
+/// What each status says of words that spell no command.
+pub fn usage_statuses()
+    ensures { (place : ℕ) (call : Call) → IsCallOf (usage_course place) call
+        → UsageStatuses place call }
+{}
+
+/// The place that the message of such words names: the first wrong word stands behind the longest front of the words that is
+/// a front of some command's words.
+pub fn wrong_words_have_their_place()
+    ensures { (words : List (List ℕ)) → IsFirstWrong command_forms words
+        (first_wrong command_forms words) }
+{
+    wrong_words_follow_the_longest_front();
+}
+
+/// What links have carried changes in no call but of a command that runs a board with several workers, however it ends.
+pub fn unused_links_stay()
+    ensures { (spelled : Spelled) (call : Call) → uses_links spelled ≡ false
+        → IsCallOf (course_of spelled) call → call.after.links ≡ call.before.links }
+{}

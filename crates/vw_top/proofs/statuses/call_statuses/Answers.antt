@@ -1,6 +1,0 @@
-use Rattle.vw_course.proofs.CallTable.{call_table}
-use Rattle.vw_top.specs.Commands.{course_of}
-use Rattle.vw_top.proofs.statuses.call_statuses.Goals as goal
-
-pub returns : goal.returns
-returns c = λ spelled call. call_table (course_of spelled) call

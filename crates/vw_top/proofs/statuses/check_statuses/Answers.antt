@@ -1,5 +1,0 @@
-use Rattle.vw_top.proofs.CheckLaws.{check_table}
-use Rattle.vw_top.proofs.statuses.check_statuses.Goals as goal
-
-pub returns : goal.returns
-returns c = λ probes few design board plan call. check_table probes design board plan call few

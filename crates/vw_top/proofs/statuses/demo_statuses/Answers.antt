@@ -1,5 +1,0 @@
-use Rattle.vw_top.proofs.DemoLaws.{demo_table}
-use Rattle.vw_top.proofs.statuses.demo_statuses.Goals as goal
-
-pub returns : goal.returns
-returns c = demo_table

@@ -1,5 +1,0 @@
-use Rattle.vw_top.proofs.SimLaws.{grade_table}
-use Rattle.vw_top.proofs.statuses.grade_statuses.Goals as goal
-
-pub returns : goal.returns
-returns c = λ design stimulus unknown call. grade_table unknown design stimulus call

@@ -1,5 +1,0 @@
-use Rattle.vw_top.proofs.PieceLaws.{pieces_join}
-use Rattle.vw_top.proofs.statuses.pieces_join.Goals as goal
-
-pub returns : goal.returns
-returns c = pieces_join c.traces_join.ensures.from_the_start

@@ -1,5 +1,0 @@
-use Rattle.vw_top.proofs.PlanLaws.{plan_table}
-use Rattle.vw_top.proofs.statuses.plan_statuses.Goals as goal
-
-pub returns : goal.returns
-returns c = λ probes few design board call. plan_table probes design board call few

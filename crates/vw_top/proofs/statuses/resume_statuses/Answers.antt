@@ -1,5 +1,0 @@
-use Rattle.vw_top.proofs.ResumeLaws.{resume_table}
-use Rattle.vw_top.proofs.statuses.resume_statuses.Goals as goal
-
-pub returns : goal.returns
-returns c = λ design board state stimulus given workers call. resume_table design board given state stimulus workers call

@@ -1,8 +1,0 @@
-use Rattle.std.proofs.Common.{length}
-use Rattle.vw_top.specs.Commands.{trace_of, netlist_trace}
-use Rattle.vw_top.proofs.RunLaws.{run_table}
-use Rattle.vw_top.proofs.StreamedTraces.{traces_agree}
-use Rattle.vw_top.proofs.statuses.run_statuses.Goals as goal
-
-pub returns : goal.returns
-returns c = λ probes few design board stimulus given workers unknown call. run_table probes (trace_of unknown) (netlist_trace (length probes) unknown) (traces_agree probes unknown) design board given stimulus workers unknown call few

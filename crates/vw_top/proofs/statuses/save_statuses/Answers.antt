@@ -1,8 +1,0 @@
-use Rattle.std.proofs.Common.{[], arith}
-use Rattle.vw_top.specs.Commands.{saved_of, netlist_state}
-use Rattle.vw_top.proofs.RunLaws.{run_table}
-use Rattle.vw_top.proofs.StreamedTraces.{saved_agree}
-use Rattle.vw_top.proofs.statuses.save_statuses.Goals as goal
-
-pub returns : goal.returns
-returns c = λ design board stimulus given workers unknown call. run_table [] (saved_of unknown) (netlist_state unknown) (saved_agree [] unknown) design board given stimulus workers unknown call (omega arith)

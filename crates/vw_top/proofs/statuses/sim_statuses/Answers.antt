@@ -1,6 +1,0 @@
-use Rattle.vw_top.specs.Commands.{trace_of}
-use Rattle.vw_top.proofs.SimLaws.{sim_table}
-use Rattle.vw_top.proofs.statuses.sim_statuses.Goals as goal
-
-pub returns : goal.returns
-returns c = λ probes design stimulus unknown call. sim_table probes (trace_of unknown) design stimulus call

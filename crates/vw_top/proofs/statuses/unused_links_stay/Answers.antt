@@ -1,5 +1,0 @@
-use Rattle.vw_top.proofs.UnusedLinks.{unused_links_stay}
-use Rattle.vw_top.proofs.statuses.unused_links_stay.Goals as goal
-
-pub returns : goal.returns
-returns c = unused_links_stay

@@ -1,5 +1,0 @@
-use Rattle.vw_top.proofs.WaveLaws.{designs_replay}
-use Rattle.vw_top.proofs.statuses.waves_show_designs.Goals as goal
-
-pub returns : goal.returns
-returns c = designs_replay c.waves_of_runs_replay.ensures

@@ -1,3 +1,0 @@
--- What functions of this crate compute, step by step. No public clause cites it.
-pub mod Commands
-pub mod Stages
