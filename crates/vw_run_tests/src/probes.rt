@@ -302,14 +302,13 @@ fn there_may_be_64_probes(rt: HostRuntime) -> Result<(), Fail> {
     );
     let texts = &[("d", TOGGLE), ("s", "0\n")];
     words_end_so(alloc, &probed(alloc, SIM, 64)?, texts, traced)?;
-    has_many_signals(alloc, texts)
+    are_many_signals(alloc, &probed(alloc, WAVE, 64)?, texts)
 }
 
-/// Fails unless a wave with 64 probes is written.
-fn has_many_signals(alloc: Global, texts: &[(&str, &str)]) -> Result<(), Fail> {
-    let words = probed(alloc, WAVE, 64)?;
+/// Fails unless the wave of these words is written.
+fn are_many_signals(alloc: Global, words: &[&str], texts: &[(&str, &str)]) -> Result<(), Fail> {
     let call = Call {
-        words: &words,
+        words,
         texts,
         most: MOST,
         fault: Fault::None,
