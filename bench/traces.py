@@ -48,6 +48,7 @@ REGISTERS = {
     "odd_ranges": "kept[2:9]",
     "parameters": "wide.low.now[4:0] wide.high.now[4:0] narrow.now[5:0]",
     "ram_initial": "memory[9][7:0]",
+    "reset_machine": "state[1:0]",
     "state_machine": "state[2:0]",
     "sv_types": "state[1:0] parts[7:0]",
 }
