@@ -155,6 +155,21 @@ class Samples(Case):
         values = replayed(self.joined(".model top\n.inputs a\n.outputs a\n", wave, "1\n0\n"))
         self.assertEqual(values, {("top", "a"): [(0, "1"), (1, "0")]})
 
+    def test_a_register_that_is_reset_at_once_stands_for_its_latch(self):
+        tables = ".names $l$1 rst r[0]\n10 1\n.names rst r[0] $l$2 r[1]\n00- 0\n"
+        design = design_of("$l$1 $l$2", inputs="clk rst") + tables
+        wave = wave_of(["_l_1", "_l_2"], (0, "a=1", "b=0"), (1, "a=0"), (2, "a=1", "b=1"), (4,))
+        values = replayed(self.joined(design, wave, "0\n1\n0\nhold 1\n"))
+        self.assertEqual(values, {("top", "rst"): [(0, "0"), (1, "1"), (2, "0")],
+                                  ("top", "r [1:0]"): [(0, "11"), (1, "10"), (2, "11")]})
+        values = replayed(self.joined(design, wave))
+        self.assertEqual(set(values), {("top", "unnamed", "\\$l$1"), ("top", "unnamed", "\\$l$2")})
+
+    def test_a_latch_whose_readers_have_no_name_or_read_more_stays(self):
+        design = design_of("$l", inputs="clk rst") + ".names rst x\n1 1\n.names $l x r\n10 1\n.names $l $y\n1 1\n"
+        values = replayed(self.joined(design, wave_of(["_l"], (0, "a=1"), (1,)), "1\n"))
+        self.assertEqual(set(values), {("top", "rst"), ("top", "unnamed", "\\$l")})
+
     def test_rows_that_hold_and_comments(self):
         wave = wave_of(["q"], (0, "a=0"), (6, "a=1"), (7,))
         stimulus = "# zeros first\nhold 2\n10\nhold 1\n\n01 # one\nhold 0\n10\n01"
@@ -272,22 +287,28 @@ class WavesOfVwires(Case):
 
     @unittest.skipUnless(shutil.which("yosys") and shutil.which("iverilog"), "no yosys or no iverilog")
     def test_values_are_those_of_icarus(self):
-        for file in [TESTS / "mac.v", TESTS / "mac_bench.v"]:
-            shutil.copy(file, self.folder)
-        chance = random.Random(1)
-        rows = [f"{int(clock < 1)}{chance.choice('01')}{chance.getrandbits(16):016b}" for clock in range(200)]
-        self.write("rows.mem", "\n".join(rows) + "\n")
-        # columns have the lowest bit first
-        self.write("mac.stim", "".join(f"{row[:2]}{row[9:1:-1]}{row[17:9:-1]}\n" for row in rows))
-        self.printed("iverilog", "-g2005", "-o", "bench.out", "mac_bench.v", "mac.v")
-        self.printed("vvp", "-n", "bench.out")
-        self.printed("yosys", "-q", "-r", "mac", "-s", RECIPE, "-o", "mac.blif", "mac.v")
-        wave = self.printed(VWIRES, "wave", "mac.blif", "mac.stim")
-        self.write("w.vcd", wave)
-        ours = replayed(self.printed(BUSES, "w.vcd", "mac.blif", "mac.stim"))
-        theirs = replayed((self.folder / "icarus.vcd").read_text())
-        self.assertEqual(wave.count("$var"), 86)
-        self.assertEqual(len(ours), 11)
+        for name, bits, columns, signals, buses in [
+            # columns have the lowest bit first
+            ("mac", 17, [0, 1, *range(9, 1, -1), *range(17, 9, -1)], 86, 11),
+            ("late", 4, [0, 4, 3, 2, 1], 9, 6),
+        ]:
+            for file in [f"{name}.v", f"{name}_bench.v"]:
+                shutil.copy(TESTS / file, self.folder)
+            chance = random.Random(1)
+            rows = [f"{int(clock < 1 or clock % 50 == 0)}{chance.getrandbits(bits):0{bits}b}" for clock in range(200)]
+            self.write("rows.mem", "\n".join(rows) + "\n")
+            self.write("s.stim", "".join("".join(row[place] for place in columns) + "\n" for row in rows))
+            self.printed("iverilog", "-g2005", "-o", "bench.out", f"{name}_bench.v", f"{name}.v")
+            self.printed("vvp", "-n", "bench.out")
+            self.printed("yosys", "-q", "-r", name, "-s", RECIPE, "-o", "d.blif", f"{name}.v")
+            wave = self.printed(VWIRES, "wave", "d.blif", "s.stim")
+            self.write("w.vcd", wave)
+            ours = replayed(self.printed(BUSES, "w.vcd", "d.blif", "s.stim"))
+            self.assertEqual((wave.count("$var"), len(ours)), (signals, buses))
+            self.compare(ours, replayed((self.folder / "icarus.vcd").read_text()))
+
+    def compare(self, ours, theirs):
+        """Each signal has the value that Icarus has before the edge of each clock, where Icarus knows it."""
         for signal, moments in ours.items():
             others = theirs[("bench", "dut", *signal[1:])]
             known = [clock for clock in range(200) if set(value_at(others, 3 * clock)) <= set("01")]
