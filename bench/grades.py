@@ -1,32 +1,30 @@
 #!/usr/bin/env python3
-"""Says how many faults of the UART and the datapath of bench/verilog are revealed by rows by chance.
+"""Says how many faults of the UART and the datapath of bench/verilog their test benches reveal.
 
     bench/grades.py PROGRAM [CLOCKS] [SEED]
 
-PROGRAM is a built vwires, a path or a name on PATH; yosys has to be installed. yosys makes the designs by the recipe,
-tools/blif.ys. There are CLOCKS rows (default 300), in which a reset is on for the first two clocks and in one of
-sixteen after them. It prints a table in Markdown: all faults of `grade`, and those of nets from which some way leads
-to an output, as tools/seen.awk sets them apart.
+PROGRAM is a built vwires, a path or a name on PATH; yosys and Icarus Verilog (iverilog, vvp) have to be installed.
+yosys makes the designs by the recipe, tools/blif.ys. The stimulus has the inputs of CLOCKS clocks (default 300) that
+the test bench of each, which draws by chance from SEED (default 1), gives to it. It prints a table in Markdown: all
+faults of `grade`, and those of nets from which some way leads to an output, as tools/seen.awk sets them apart.
 """
 import pathlib
-import random
 import shutil
 import sys
 import tempfile
 
 sys.dont_write_bytecode = True
 from emitted import RECIPE, run, synthesis
-from traces import DRIVEN, bit_by_chance, ports_of, written
+from traces import DRIVEN, printed, written
 
 SEEN = RECIPE.parent / "seen.awk"
 
 
-def graded(program, name, clocks, chance, folder):
+def graded(program, name, clocks, seed, folder):
     """A line of the table."""
-    run(synthesis(written(name, folder)), folder)
-    design = (folder / f"{name}.blif").read_text()
-    columns = [bit for port, bits in ports_of(design, "inputs").items() if port != "clk" for bit in bits]
-    rows = ["".join(bit_by_chance(column, clock, chance) for column in columns) for clock in range(clocks)]
+    file = written(name, folder)
+    run(synthesis(file), folder)
+    rows = [words[0] for words in printed(name, file, folder, [f"+clocks={clocks}", f"+seed={seed}"])]
     (folder / "rows.stim").write_text("\n".join(rows) + "\n")
     netlist = run([program, "nets", f"{name}.blif"], folder)
     grading = run([program, "grade", f"{name}.blif", "rows.stim", "workers=1"], folder)
@@ -48,7 +46,7 @@ def main():
     print("|---|---|---|---|---|---|")
     for name in DRIVEN:
         with tempfile.TemporaryDirectory() as folder:
-            print(graded(program, name, clocks, random.Random(f"{seed} {name}"), pathlib.Path(folder)))
+            print(graded(program, name, clocks, seed, pathlib.Path(folder)), flush=True)
 
 
 if __name__ == "__main__":
