@@ -214,7 +214,7 @@ class Faults(Case):
         head = "wave: its first lines aren't those of a wave of vwires"
         whole = "wave: its last line isn't the number of clocks: it isn't whole"
         no_blif = "design: .inputs stands before the first .model: it is no text in BLIF"
-        deep = ".model a\n.subckt a\n"
+        deep, half = ".model a\n.subckt a\n", wave_of(["q", "p"], (0, "b=1"), (1,))
         for case in [
             ("", wave, None, "design: no .model in it: it is no text in BLIF"),
             (".inputs a\n", wave, None, no_blif),
@@ -226,6 +226,9 @@ class Faults(Case):
             (design, wave + "0a", None, whole),
             (design, wave.replace("0a", "xa"), None, "wave: no line of a wave of vwires: xa"),
             (design, wave.replace("#0", "#o"), None, "wave: no time: #o"),
+            (design, wave.replace("#0", "#2"), None, "wave: 1 values at time 2, wanted 1 at time 0"),
+            (design, wave_of(["q"], (1,)), None, "wave: 0 values at time 0, wanted 1 at time 0"),
+            (design_of("q p"), half, None, "wave: 1 values at time 0, wanted 2 at time 0"),
             (design_of("p q"), wave, None, "wave: 1 signals, and the design has 2 outputs and latches"),
             (design_of("other"), wave, None, "wave: signal 0 is n_q, and the design has other there"),
             (design, wave, "1\n0\n", "stimulus: 2 rows, and the wave has 1 clocks"),
