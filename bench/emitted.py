@@ -3,12 +3,12 @@
 
     bench/emitted.py PROGRAM [CLOCKS] [SEED]
 
-PROGRAM is a built vwires, a path or a name on PATH; yosys and Icarus Verilog (iverilog, vvp) have to be installed. yosys
-makes five designs from Verilog. Each is planned on a ring of chips, with a row by chance for each of CLOCKS clocks (default
-300). Three things are compared clock by clock: the trace of `run` by the plan; that of `sim` over the emitted board, each
-row held for P + 1 clocks, P being the period, in the last of these clocks; and what Icarus Verilog prints in these clocks,
-of the Verilog that yosys makes of the emitted board. It prints a table in Markdown, and ends with 1 where something
-differs.
+PROGRAM is a built vwires, a path or a name on PATH; yosys and Icarus Verilog (iverilog, vvp) have to be installed.
+yosys makes seven designs from Verilog by tools/blif.ys, two of them without initial values. Each is planned on a ring
+of chips, with a row by chance for each of CLOCKS clocks (default 300). Three things are compared clock by clock: the
+trace of `run` by the plan; that of `sim` over the emitted board, each row held for P + 1 clocks, P being the period,
+in the last of these clocks; and what Icarus Verilog prints in these clocks, of the Verilog that yosys makes of the
+emitted board. It prints a table in Markdown, and ends with 1 where something differs.
 """
 import pathlib
 import random
@@ -107,14 +107,33 @@ module queue(input clk, input put, input take, input [3:0] word, output [3:0] fi
 endmodule""",
 }
 
-RECIPE = (
-    "read_verilog {0}.v; synth -flatten -top {0}; async2sync; dfflegalize -cell $_DFF_P_ 01; abc -lut 4; "
-    "opt_clean -purge; write_blif {0}.blif"
-)
+# designs without initial values, whose registers start at 0 as those of `run` do
+UNSET = {
+    # the sum of what came, which nothing sets back
+    "total": """
+module total(input clk, input en, input [3:0] d, output reg [7:0] sum, output odd);
+  assign odd = ^sum;
+  always @(posedge clk) if (en) sum <= sum + d;
+endmodule""",
+    # a counter that a reset sets to 5 at the edge, and a flag that a reset takes away at once
+    "resets": """
+module resets(input clk, input rst, input en, output reg [3:0] count, output reg passed);
+  always @(posedge clk)
+    if (rst) count <= 4'd5;
+    else if (en) count <= count + 4'd1;
+  always @(posedge clk or posedge rst)
+    if (rst) passed <= 1'b0;
+    else passed <= passed | &count;
+endmodule""",
+}
+
+RECIPE = pathlib.Path(__file__).resolve().parent.parent / "tools" / "blif.ys"
 AS_VERILOG = "read_blif clocked.blif; write_verilog board.v"
-# what gives the registers of an emitted board a clock, as docs/formats.md has it
+# what gives the registers of an emitted board a clock and an initial value, as docs/yosys.md has it
 CLOCKED = [
     "sed",
+    "-e",
+    r"/^\.latch/s/ 2$/ 0/",
     "-e",
     r"/^\.latch/s/ \([^ ]*\)$/ re clk \1/",
     "-e",
@@ -131,6 +150,12 @@ def run(words, folder):
     if done.returncode != 0:
         sys.exit(f"{' '.join(map(str, words))}: status {done.returncode}\n{done.stderr}{done.stdout[-2000:]}")
     return done.stdout
+
+
+def synthesis(file):
+    """The command that makes a design NAME.blif of NAME.v by the recipe, whose top module is NAME."""
+    name = pathlib.Path(file).stem
+    return ["yosys", "-q", "-r", name, "-s", RECIPE, "-o", f"{name}.blif", file]
 
 
 def ring(cells):
@@ -201,7 +226,7 @@ def different(one, other):
 def compare(program, name, source, clocks, chance, folder):
     """A line of the table, and how many clocks differ."""
     (folder / f"{name}.v").write_text(source)
-    run(["yosys", "-q", "-p", RECIPE.format(name)], folder)
+    run(synthesis(f"{name}.v"), folder)
     design = (folder / f"{name}.blif").read_text()
     cells = sum(line.startswith((".names", ".latch")) for line in design.splitlines())
     (folder / "ring.board").write_text(ring(cells))
@@ -242,7 +267,7 @@ def main():
     print("| design | cells | period | cells of its board | text, kB | clocks | differ in `sim` | differ in Icarus |")
     print("|---|---|---|---|---|---|---|---|")
     wrong = 0
-    for name, source in MODULES.items():
+    for name, source in {**MODULES, **UNSET}.items():
         with tempfile.TemporaryDirectory() as folder:
             wrong += compare(program, name, source, clocks, chance, pathlib.Path(folder))
     sys.exit(1 if wrong else 0)
