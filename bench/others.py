@@ -3,12 +3,12 @@
 
     bench/others.py PROGRAM [CLOCKS] [SEED]
 
-PROGRAM is a built vwires, a path or a name on PATH; yosys, Icarus Verilog (iverilog, vvp), Verilator and a compiler of C++
-have to be installed. yosys makes three designs by the recipe: the UART and the datapath of bench/verilog, and sixteen
-stages of sums over words of 32 bits. Over CLOCKS rows by chance (default 20,000; Verilator gets fifty times as many,
-as it is too fast otherwise) each program reads the rows and prints the outputs of each clock. All have to print the same.
-It prints a table in Markdown with the processor time of a clock, the least of three runs, and ends with 1 where outputs
-differ.
+PROGRAM is a built vwires, a path or a name on PATH; yosys, Icarus Verilog (iverilog, vvp), Verilator and a compiler
+of C++ have to be installed. yosys makes three designs by the recipe: the UART and the datapath of bench/verilog, and
+sixteen stages of sums over words of 32 bits. Over CLOCKS rows by chance (default 20,000; Verilator, which is too fast
+otherwise, gets fifty times as many) each program reads the rows and prints the outputs of each clock. All have to
+print the same. It prints a table in Markdown with the processor time of a clock, the least of three runs, and ends
+with 1 where outputs differ.
 """
 import pathlib
 import random
@@ -58,8 +58,9 @@ def in_icarus(name, inputs, outputs, clocks):
     columns = [bit for bits in inputs.values() for bit in bits]
     idle = int(name in FALLING)
     places = {bit: len(columns) - 1 - place for place, bit in enumerate(columns)}
-    joined = [f".{port}({{{', '.join(f'row[{places[bit]}]' for bit in reversed(bits))}}})" for port, bits in inputs.items()]
-    joined += [f".{port}({port})" for port in outputs]
+    joined = [f".{port}({port})" for port in outputs]
+    for port, bits in inputs.items():
+        joined.append(f".{port}({{{', '.join(f'row[{places[bit]}]' for bit in reversed(bits))}}})")
     shown = [bit if len(bits) > 1 else port for port, bits in outputs.items() for bit in bits]
     wires = "\n".join(f"wire [{len(bits) - 1}:0] {port};" for port, bits in outputs.items())
     return f"""module bench;
@@ -96,7 +97,7 @@ def in_verilator(name, inputs, outputs):
 
 
 def timed(words, folder, stdin=None):
-    """The least processor time of three runs of a command, in seconds, and what it prints."""
+    """The least processor time of three runs of a command, in seconds, a millisecond or more, and what it prints."""
     least = None
     for _ in range(3):
         before = resource.getrusage(resource.RUSAGE_CHILDREN).ru_utime
@@ -104,7 +105,7 @@ def timed(words, folder, stdin=None):
             done = subprocess.run(words, cwd=folder, stdin=given, capture_output=True, text=True, check=True)
         took = resource.getrusage(resource.RUSAGE_CHILDREN).ru_utime - before
         least = took if least is None else min(least, took)
-    return least, done.stdout
+    return max(least, 0.001), done.stdout
 
 
 def compare(program, name, clocks, chance, folder):
@@ -135,10 +136,10 @@ def compare(program, name, clocks, chance, folder):
     by_sim, trace = timed([program, "sim", f"{name}.blif", "rows.stim"], folder)
     shown = [line.split()[1] for line in trace.splitlines()[1:-1]]
     wrong = shown != first.split() or shown != second.split()[:clocks]
-    each = [seconds * 1e6 / count for seconds, count in [(by_icarus, clocks), (by_verilator, clocks * MORE), (by_sim, clocks)]]
+    icarus, sim, verilator = by_icarus * 1e6 / clocks, by_sim * 1e6 / clocks, by_verilator * 1e6 / (clocks * MORE)
     cells = len(re.findall(r"^\.(?:names|latch) ", design, re.M))
-    ratios = f"{each[0] / each[2]:.0f} | {each[2] / each[1]:.0f}"
-    print(f"| {name} | {cells:,} | {each[0]:.1f} | {each[2]:.2f} | {each[1]:.3f} | {ratios} | {'yes' if wrong else 'no'} |")
+    times = f"{icarus:.1f} | {sim:.2f} | {verilator:.3f} | {icarus / sim:.0f} | {sim / verilator:.0f}"
+    print(f"| {name} | {cells:,} | {times} | {'yes' if wrong else 'no'} |", flush=True)
     return wrong
 
 
@@ -151,7 +152,7 @@ def main():
     program = pathlib.Path(shutil.which(sys.argv[1]) or sys.argv[1]).resolve()
     clocks = int(sys.argv[2]) if len(sys.argv) > 2 else 20000
     chance = random.Random(int(sys.argv[3]) if len(sys.argv) > 3 else 1)
-    print("| design | cells | Icarus on the netlist, µs a clock | `sim` | Verilator on the Verilog | Icarus : `sim` | `sim` : Verilator | outputs differ |")
+    print("| design | cells | Icarus, µs a clock | `sim` | Verilator | Icarus : `sim` | `sim` : Verilator | differ |")
     print("|---|---|---|---|---|---|---|---|")
     wrong = 0
     for name in ["uart", "datapath", "stages"]:
