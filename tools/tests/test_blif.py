@@ -10,6 +10,12 @@ RECIPE = TESTS.parent / "blif.ys"
 DATA = TESTS.parent.parent / "crates" / "vwires" / "data"
 
 
+def ports_and_latches(lines):
+    """The ports of the model, and of each latch its net, its edge, its clock and its initial value."""
+    ports = [line for line in lines if line.startswith((".model", ".inputs", ".outputs"))]
+    return ports, [line.split()[2:] for line in lines if line.startswith(".latch")]
+
+
 @unittest.skipUnless(shutil.which("yosys"), "no yosys")
 class Recipe(unittest.TestCase):
     def made(self, options, *files):
@@ -27,13 +33,14 @@ class Recipe(unittest.TestCase):
             file.write_text(text)
             return self.made(["-r", top], file)
 
-    def test_the_toggle_of_the_tour(self):
-        fault, lines = self.made(["-r", "toggle"], DATA / "toggle.v")
-        # the first line has the version of yosys
-        self.assertEqual((fault, lines[1:]), ("", (DATA / "toggled.blif").read_text().splitlines()[1:]))
+    def test_the_counter_of_the_tour(self):
+        fault, lines = self.made(["-r", "updown"], DATA / "updown.v")
+        shown = (DATA / "updown.blif").read_text().splitlines()
+        # the tables depend on the version of yosys
+        self.assertEqual((fault, ports_and_latches(lines)), ("", ports_and_latches(shown)))
 
     def test_a_top_module_has_to_be_named(self):
-        fault, lines = self.made([], DATA / "toggle.v")
+        fault, lines = self.made([], DATA / "updown.v")
         self.assertEqual(lines, [])
         self.assertIn("selection is empty: A:top", fault)
 
