@@ -1,4 +1,4 @@
-//! Stuck-at faults that rows reveal.
+//! Stuck-at faults that rows reveal. In the field: parallel fault simulation, with one fault in each bit of a word.
 #![tactic(auto)]
 
 mod clock;

@@ -1,4 +1,5 @@
-//! Where the cells of a netlist might be put on the chips of a board.
+//! Where the cells of a netlist might be put on the chips of a board. In the field: multilevel partitioning, as METIS does
+//! it (Karypis and Kumar 1998).
 #![tactic(auto)]
 
 mod climb;

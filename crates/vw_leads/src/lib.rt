@@ -1,5 +1,5 @@
 //! When nets are at nodes: over which link a hop goes and when it arrives, and from which microcycle on a node can use a
-//! net.
+//! net. In the field: arrival and ready times.
 #![tactic(auto)]
 
 mod home;

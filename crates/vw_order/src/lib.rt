@@ -1,5 +1,6 @@
 //! Numbers that read each other: a search in depth for an order of them, or a circle. And by it an order in which the
-//! gates of a netlist can be worked out, or gates that read each other in a loop.
+//! gates of a netlist can be worked out, or gates that read each other in a loop. In the field: a topological order, by
+//! depth-first search.
 #![tactic(auto)]
 
 mod circle;

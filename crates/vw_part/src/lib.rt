@@ -1,4 +1,5 @@
-//! Which chip each cell is put on.
+//! Which chip each cell is put on. In the field: partitioning by moves with gains (Fiduccia and Mattheyses 1982), without
+//! their passes.
 #![tactic(auto)]
 
 mod cell_nets;

@@ -1,4 +1,5 @@
-//! Schedules in which each hop takes the first free slot of its link once its net is usable.
+//! Schedules in which each hop takes the first free slot of its link once its net is usable. In the field: list scheduling,
+//! by the length of the critical path that remains.
 #![tactic(auto)]
 
 mod along;

@@ -1,4 +1,5 @@
-//! Boards of chips joined by links, plans that send the nets of a design over them, and what makes a plan sound.
+//! Boards of chips joined by links, plans that send the nets of a design over them, and what makes a plan sound. In the
+//! field: static time multiplexing of pins, called virtual wires (Babb, Tessier and Agarwal 1993).
 #![tactic(auto)]
 
 mod board;

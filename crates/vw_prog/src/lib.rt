@@ -1,5 +1,5 @@
 //! What each node of a board does in one clock of the design, which words go over which link, and the traits of the ends of
-//! links.
+//! links. In the field: a static schedule.
 #![tactic(auto)]
 
 mod action;

@@ -1,5 +1,5 @@
 //! States of runs, and runs that go on from them: on another board, by another plan, with another number of workers. The
-//! traces of such runs, joined line by line, are the trace of the whole.
+//! traces of such runs, joined line by line, are the trace of the whole. In the field: checkpoint and restart.
 #![tactic(auto)]
 
 mod fault;

@@ -1,4 +1,4 @@
-//! One clock of a flat netlist, worked out gate by gate.
+//! One clock of a flat netlist, worked out gate by gate. In the field: levelized, cycle-based simulation.
 #![tactic(auto)]
 
 mod clock;

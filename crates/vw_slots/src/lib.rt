@@ -1,4 +1,5 @@
-//! Which pins of the links of a board are taken in which microcycle, and the earliest free one.
+//! Which pins of the links of a board are taken in which microcycle, and the earliest free one. In the field: a reservation
+//! table.
 #![tactic(auto)]
 
 mod laws;

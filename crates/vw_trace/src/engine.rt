@@ -40,12 +40,7 @@ pub trait Engine {
     ///
     /// It takes memory for these clocks, all of it before the first. Where there is none, no clock was worked out, and
     /// nothing is known of `state` and of the count.
-    fn work_out(
-        &mut self,
-        alloc: Global,
-        rows: Rows,
-        state: &mut Bits,
-    ) -> Result<Batch, AllocError>
+    fn work_out(&mut self, alloc: Global, rows: Rows, state: &mut Bits) -> Result<Batch, AllocError>
         requires columns { All (λ row. length row ≡ (netlist self.old).inputs) rows }
         requires latches { length state.old ≡ latch_count (netlist self.old).cells }
         requires few { done self.old + length rows < 2 ^ 32 }

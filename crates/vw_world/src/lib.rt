@@ -1,4 +1,5 @@
-//! The board itself, in a pure core: the nodes of a job and the words on its links, over every order of events.
+//! The board itself, in a pure core: the nodes of a job and the words on its links, over every order of events. In the
+//! field: a process network with bounded queues (Kahn 1974), whose results don't depend on who acts first.
 #![tactic(auto)]
 
 mod board;

@@ -44,11 +44,11 @@ fn status_of<R: Threads + Wait + Abort + Copy + Send + Sync>(
 
 /// Asserts that a run with three workers ends with this status where one of its reads or writes fails, with the line of its
 /// stage, and that there are no more of them.
-fn each_stops<R: Threads + Wait + Abort + Copy + Send + Sync>(
+fn each_stops<'x, R: Threads + Wait + Abort + Copy + Send + Sync>(
     rt: &R,
     alloc: Global,
     are_reads: bool,
-    stages: &[(u64, &str)],
+    stages: &'x [(u64, &'x str)],
     status: u8,
 ) -> Result<(), Fail> {
     for number in 1..100u64 {
