@@ -1,4 +1,4 @@
-//! What nodes that are done have told: the answer of a job.
+//! What nodes that are done have told: the answer of a job. In the field: the reduction at the end of a parallel job.
 #![tactic(auto)]
 
 mod answering;

@@ -1,4 +1,5 @@
-//! Boards that run a planned design batch by batch, in any number of workers, and what is written down meanwhile.
+//! Boards that run a planned design batch by batch, in any number of workers, and what is written down meanwhile. In the
+//! field: emulation in batches of test vectors.
 #![tactic(auto)]
 
 mod crewed_board;

@@ -11,6 +11,7 @@ use Rattle.vw_blif.specs.Spelled.{Binding, SpelledItem, place}
 abbrev pub formal_of : Word → Word
 formal_of word = before_first (λ b. b == 61) word
 
+-- what stands behind the first `=` of a word: the actual of a binding
 abbrev pub actual_part : Word → Word
 actual_part word = after_first (λ b. b == 61) word
 
@@ -18,6 +19,7 @@ actual_part word = after_first (λ b. b == 61) word
 abbrev pub is_no_bind : Word → Bool
 is_no_bind word = length (formal_of word) == 0 || length (actual_part word) == 0
 
+-- the binding that a word spells
 abbrev pub bind_of : Word → Binding
 bind_of word = record { formal = formal_of word; actual = actual_part word }
 

@@ -16,6 +16,7 @@ abbrev pub with_element : {A : Type 0} → Bool → A → CutList A → CutList 
 with_element true x cut = record { before = []; parts = record { head = x; tail = cut.before } ∷ cut.parts }
 with_element false x cut = record { before = x ∷ cut.before; parts = cut.parts }
 
+-- a list, cut before each element with which a part begins
 abbrev pub cut_before : {A : Type 0} → (A → Bool) → List A → CutList A
 cut_before begins [] = record { before = []; parts = [] }
 cut_before begins (x ∷ xs) = with_element (begins x) x (cut_before begins xs)

@@ -5,7 +5,7 @@ use Rattle.std.specs.Prelude.{not, List, [], map, Option, Some, None, if◌then�
 use Rattle.std.specs.List.{flat_map, filter_map}
 use Rattle.vw_text.specs.declared.line.Line.{Line}
 use Rattle.vw_blif.specs.declared.kind.Kind.{Kind}
-use Rattle.vw_blif.specs.declared.kind.Kind.TheVariants.{Model, Inputs, Outputs, Clock, Names, Latch, Subckt, End, Other, Row}
+use Rattle.vw_blif.specs.declared.kind.Kind.TheVariants.{Names, Latch, Subckt}
 use Rattle.vw_blif.specs.Words.{first_word, last_word, front_words}
 use Rattle.vw_design.specs.Paths.{Word}
 use Rattle.vw_blif.specs.Kinds.{kind, further, is_model, is_end, is_row, Port, input, output, clocked, adds_to}
@@ -19,6 +19,7 @@ use Rattle.vw_blif.specs.CutLists.{Part, CutList, cut_before, until}
 abbrev pub blocks : List Line → CutList Line
 blocks lines = cut_before (λ line. is_model (kind line)) lines
 
+-- the groups of the lines of a model up to its `.end`: each line that isn't a row, with the rows behind it
 abbrev pub groups : List Line → CutList Line
 groups lines = cut_before (λ line. not (is_row (kind line))) (until (λ line. is_end (kind line)) lines)
 
@@ -29,17 +30,12 @@ table_of line rows =
 
 -- the item of a group, by the kind of its first line
 abbrev pub item_by : Kind → Line → List Line → Option SpelledItem
-item_by Model line rows = None
-item_by Inputs line rows = None
-item_by Outputs line rows = None
-item_by Clock line rows = None
 item_by Names line rows = Some (table_of line rows)
 item_by Latch line rows = Some (latch_of line.number (further line))
 item_by Subckt line rows = Some (spelled_placing line.number (further line))
-item_by End line rows = None
-item_by Other line rows = None
-item_by Row line rows = None
+item_by _ line rows = None
 
+-- the item that a group of lines spells
 abbrev pub item_of : Part Line → Option SpelledItem
 item_of group = item_by (kind group.head) group.head group.tail
 
@@ -57,6 +53,7 @@ model_by name parts = record {
   items = filter_map item_of parts;
 }
 
+-- the model that a block of lines spells, its `.model` line first
 abbrev pub model_of : Part Line → SpelledModel
 model_of block = model_by (first_word (further block.head)) ((groups block.tail).parts)
 

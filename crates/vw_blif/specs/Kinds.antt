@@ -16,6 +16,7 @@ kind_of word =
     else if bytes_eq word (codes ".subckt") then Subckt else if bytes_eq word (codes ".end") then End
     else if begins_with_point word then Other else Row
 
+-- the kind of a line: that of its first word
 abbrev pub kind : Line → Kind
 kind line = kind_of (first_word line.words)
 
@@ -23,41 +24,20 @@ kind line = kind_of (first_word line.words)
 abbrev pub further : Line → List Word
 further line = further_words line.words
 
+-- whether a line of a kind begins a model
 abbrev pub is_model : Kind → Bool
 is_model Model = true
-is_model Inputs = false
-is_model Outputs = false
-is_model Clock = false
-is_model Names = false
-is_model Latch = false
-is_model Subckt = false
-is_model End = false
-is_model Other = false
-is_model Row = false
+is_model _ = false
 
+-- whether a line of a kind ends a model
 abbrev pub is_end : Kind → Bool
-is_end Model = false
-is_end Inputs = false
-is_end Outputs = false
-is_end Clock = false
-is_end Names = false
-is_end Latch = false
-is_end Subckt = false
 is_end End = true
-is_end Other = false
-is_end Row = false
+is_end _ = false
 
+-- whether a line of a kind is a row of a table
 abbrev pub is_row : Kind → Bool
-is_row Model = false
-is_row Inputs = false
-is_row Outputs = false
-is_row Clock = false
-is_row Names = false
-is_row Latch = false
-is_row Subckt = false
-is_row End = false
-is_row Other = false
 is_row Row = true
+is_row _ = false
 
 -- the three lists of ports of a model
 pub data Port : Type 0 where
@@ -67,19 +47,7 @@ pub data Port : Type 0 where
 
 -- whether a line of a kind adds to a list of ports
 abbrev pub adds_to : Kind → Port → Bool
-adds_to Model port = false
 adds_to Inputs input = true
-adds_to Inputs output = false
-adds_to Inputs clocked = false
-adds_to Outputs input = false
 adds_to Outputs output = true
-adds_to Outputs clocked = false
-adds_to Clock input = false
-adds_to Clock output = false
 adds_to Clock clocked = true
-adds_to Names port = false
-adds_to Latch port = false
-adds_to Subckt port = false
-adds_to End port = false
-adds_to Other port = false
-adds_to Row port = false
+adds_to _ port = false

@@ -21,10 +21,12 @@ abbrev pub unless : {A : Type 0} → Option TextFault → A → Result A TextFau
 unless None x = Ok x
 unless (Some fault) x = Err fault
 
+-- the models that lines spell, or their first fault
 abbrev pub design_of_lines : List Line → Result (List SpelledModel) TextFault
 design_of_lines [] = Err (NoModel 0)
 design_of_lines (line ∷ lines) = unless (first_fault [] (line ∷ lines)) (spelled_models (line ∷ lines))
 
+-- the models that a design text spells, or its first fault
 abbrev pub design_of : List ℕ → Result (List SpelledModel) TextFault
 design_of text = if nat_lt MOST_DESIGN_BYTES (length text) then Err TooLarge else design_of_lines (word_lines text)
 

@@ -8,9 +8,11 @@ use Rattle.vw_text.specs.declared.line.Line.{Line}
 use Rattle.vw_blif.specs.Words.{last_word}
 use Rattle.vw_design.specs.Paths.{Word}
 
+-- whether a byte is one of the marks `0`, `1` and `-`
 abbrev pub is_mark : ℕ → Bool
 is_mark b = b == 48 || (b == 49 || b == 45)
 
+-- the mark that a byte spells
 abbrev pub mark_of_byte : ℕ → Mark
 mark_of_byte b = if b == 48 then Zero else if b == 49 then One else Any
 

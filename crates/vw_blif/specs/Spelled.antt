@@ -20,6 +20,7 @@ pub data SpelledItem : Type 0 where
   latch : (line : ℕ) (d q : Word) (edge : Edge) (control : Option Word) (init : Init) → SpelledItem
   place : (line : ℕ) (model : Word) (binds : List Binding) → SpelledItem
 
+-- a model: its name, its ports, and its items in their order
 pub record SpelledModel : Type 0 where
   pub name : Word
   pub inputs : List Word
@@ -27,14 +28,17 @@ pub record SpelledModel : Type 0 where
   pub clocks : List Word
   pub items : List SpelledItem
 
+-- a binding of a design, as the text spells it
 abbrev pub spelled_bind : Bind → Binding
 spelled_bind bind = record { formal = bind.formal; actual = bind.actual }
 
+-- an item of a design, as the text spells it
 abbrev pub spelled_item : Item → SpelledItem
 spelled_item (Names line ins out cover) = table line ins out cover.on (map (λ row. row.marks) cover.rows)
 spelled_item (Latch line d q edge control init) = latch line d q edge control init
 spelled_item (Sub line model binds) = place line model (map spelled_bind binds)
 
+-- a model of a design, as the text spells it
 abbrev pub spelled_model : Model → SpelledModel
 spelled_model model = record {
   name = model.name;

@@ -24,6 +24,7 @@ front_words [] = []
 front_words (word ∷ []) = []
 front_words (word ∷ next ∷ words) = word ∷ front_words (next ∷ words)
 
+-- whether a word begins with a point
 abbrev pub begins_with_point : Word → Bool
 begins_with_point [] = false
 begins_with_point (b ∷ bs) = b == 46

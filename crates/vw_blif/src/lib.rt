@@ -1,4 +1,5 @@
-//! Reads a design text in BLIF: models with ports, tables, latches and placed models.
+//! Reads a design text in BLIF: models with ports, tables, latches and placed models. In the field: the front end for
+//! BLIF, the Berkeley Logic Interchange Format (University of California, Berkeley, 1992).
 #![tactic(auto)]
 
 mod bind;

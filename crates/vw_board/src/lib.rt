@@ -1,4 +1,5 @@
-//! Reads board texts, and finds how far the nodes of a board are from each other.
+//! Reads board texts, and finds how far the nodes of a board are from each other. The distances are found by
+//! breadth-first search.
 #![tactic(auto)]
 
 mod apart;

@@ -17,13 +17,13 @@ use Rattle.vw_check.specs.declared.fault.PlanFault.{PlanFault}
 use Rattle.vw_check.specs.declared.fault.PlanFault.TheVariants.{ExtraWire, MissingWire}
 use Rattle.vw_net.specs.FirstFound.{first_at, found_if, found_unless}
 use Rattle.vw_check.specs.WireFaults.{extra_wire, is_brought, missing_wire}
-use Rattle.vw_leads.specs.Pairs.{HasPairs, first_pair, is_number_pair, pair_in}
+use Rattle.vw_ready.specs.Pairs.{HasPairs, first_pair, is_number_pair, pair_in}
 use Rattle.vw_check.specs.Steps.Tables.{need_pairs}
-use Rattle.vw_leads.specs.Wires.{wire_pairs}
+use Rattle.vw_ready.specs.Wires.{wire_pairs}
 use Rattle.vw_check.specs.Steps.Wires.{first_extra, first_missing, is_extra, is_given_number}
 use Rattle.vw_net.proofs.Orders.{eqb_comm}
-use Rattle.vw_leads.proofs.FirstPlaces.{LeadsTo, leads}
-use Rattle.vw_leads.proofs.WiresBrought.{brings_by_pair, wire_leads}
+use Rattle.vw_ready.proofs.FirstPlaces.{LeadsTo, leads}
+use Rattle.vw_ready.proofs.WiresBrought.{brings_by_pair, wire_leads}
 
 -- ---- searches that find the same
 

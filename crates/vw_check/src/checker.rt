@@ -3,7 +3,7 @@ ghost use Rattle.std.specs.Prelude.{◌≡◌, ◌<◌, ◌^◌, length, IfOk, I
 ghost use Rattle.vw_plan.specs.PlannedBoard.{planned_board};
 ghost use Rattle.vw_check.specs.Faults.{cell_fault, chips_fault, hop_fault, microcycle_fault, plan_fault};
 ghost use Rattle.vw_check.specs.Answers.{HasPlace, IsAcceptedPlan, IsRefusedPlan};
-ghost use Rattle.vw_leads.specs.LeadTables.{planned_in};
+ghost use Rattle.vw_ready.specs.LeadTables.{planned_in};
 
 use crate::cells::{bad_chip, overfull, wrong_cells, zero_period};
 use crate::clash::pin_clash;
@@ -14,9 +14,9 @@ use crate::microcycles::{late_latch, too_early};
 use crate::refused::CheckRefused;
 use crate::wires::wire_fault;
 use std::alloc::{AllocError, Global};
-use vw_leads::{LeadTable, LinkTable, Wired, arrivals_of, home_leads, wire_table};
 use vw_net::{Flat, Ordered};
 use vw_plan::{Board, Checked, Plan};
+use vw_ready::{LeadTable, LinkTable, Wired, arrivals_of, home_leads, wire_table};
 
 /// The first fault of the chips of the cells, and of the period.
 fn cell_fault(flat: &Flat, board: &Board, plan: &Plan) -> Option<PlanFault>

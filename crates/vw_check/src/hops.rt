@@ -3,13 +3,13 @@
 ghost use Rattle.std.specs.Prelude.{◌≡◌, ◌≤◌, ◌<◌, ◌+◌, ◌^◌, length};
 ghost use Rattle.std.specs.List.{All};
 ghost use Rattle.vw_check.specs.HopFaults.{begins_at, broken_wire, broken_route, fits_route, is_later};
-ghost use Rattle.vw_leads.specs.LeadTables.{planned_in};
+ghost use Rattle.vw_ready.specs.LeadTables.{planned_in};
 ghost use Rattle.vw_check.specs.Steps.Rules.{first_breaking, first_in_wire, keeps, rule_fault};
 
 use crate::fault::PlanFault;
 use crate::links::width_between;
-use vw_leads::{LinkTable, Wired};
 use vw_plan::{Hop, Wire, node_of};
+use vw_ready::{LinkTable, Wired};
 
 /// What is asked of each hop.
 #[derive(Clone, Copy)]

@@ -1,4 +1,5 @@
-//! Whether a plan is sound, or the first reason why it isn't.
+//! Whether a plan is sound, or the first reason why it isn't. In the field: translation validation (Pnueli, Siegel and
+//! Singerman 1998): what a planner made is checked, and the planner isn't trusted.
 #![tactic(auto)]
 
 mod cells;

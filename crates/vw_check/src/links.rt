@@ -2,7 +2,7 @@
 ghost use Rattle.std.specs.Prelude.{◌≡◌};
 ghost use Rattle.vw_check.specs.Steps.Rules.{width_between};
 
-use vw_leads::LinkTable;
+use vw_ready::LinkTable;
 
 /// The number of pins of the link from a node to another; 0 where there is no link.
 pub fn width_between(links: &LinkTable, from: u32, to: u32) -> u32

@@ -2,12 +2,12 @@
 ghost use Rattle.std.specs.Prelude.{◌≡◌, ◌<◌, ◌+◌, length};
 ghost use Rattle.vw_plan.specs.Lead.{usable};
 ghost use Rattle.vw_check.specs.MicrocycleFaults.{late_latch, too_early};
-ghost use Rattle.vw_leads.specs.LeadTables.{IsLeadTable, planned_in};
+ghost use Rattle.vw_ready.specs.LeadTables.{IsLeadTable, planned_in};
 
 use crate::fault::PlanFault;
-use vw_leads::{LeadTable, Wired};
 use vw_net::Cell;
 use vw_plan::node_of;
+use vw_ready::{LeadTable, Wired};
 
 /// The microcycle from which on a node can use a net.
 fn usable_at(wired: &Wired, known: &LeadTable, node: u32, net: u32) -> u64

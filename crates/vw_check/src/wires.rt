@@ -1,17 +1,17 @@
 //! Wires that are missing, and wires that aren't needed.
 ghost use Rattle.std.specs.Prelude.{◌≡◌, ◌≤◌, length, IfOk};
 ghost use Rattle.std.specs.List.{All};
-ghost use Rattle.vw_leads.specs.Pairs.{HasPairs};
+ghost use Rattle.vw_ready.specs.Pairs.{HasPairs};
 ghost use Rattle.vw_check.specs.Steps.Tables.{need_pairs};
-ghost use Rattle.vw_leads.specs.Wires.{wire_pairs};
+ghost use Rattle.vw_ready.specs.Wires.{wire_pairs};
 ghost use Rattle.vw_check.specs.Steps.Wires.{first_missing, first_extra, is_extra};
 ghost use Rattle.vw_check.specs.Faults.{wire_fault};
 
 use crate::fault::PlanFault;
 use std::alloc::{AllocError, Global};
-use vw_leads::PairTable;
 use vw_net::Ordered;
 use vw_plan::{Need, Plan, Wire, needed_pairs_are_needed};
+use vw_ready::PairTable;
 use vw_wires::needed;
 
 /// The place of each needed pair.

@@ -1,13 +1,14 @@
 -- What holds at every place of a course, and what it says of a call.
-use Rattle.std.proofs.Common.{◌≡◌, ◌≢◌, ◌<◌, ◌⊎◌, ℕ, List, [], inl, inr, sym, ◌∙◌, subst}
+use Rattle.std.proofs.Common.{◌≡◌, ◌≢◌, ◌<◌, ◌⊎◌, ℕ, List, [], ◌∷◌, ◌++◌, Ok, Err, inl, inr, sym, ◌∙◌, subst, refl, ⊎_elim}
 use Rattle.vw_outside.specs.Told.{Told, held}
+use Rattle.vw_course.specs.declared.unfinished.Unfinished.TheVariants.{ReadFault, WriteFault, NoMemory, Refused}
 use Rattle.vw_course.specs.Vocabulary.{Vocabulary, IsNoStop}
 use Rattle.vw_course.specs.Outside.{Work, DidPart, ShelfAlone}
 use Rattle.vw_course.specs.Course.{Again, once, again, Course, works, refuses, reads, makes, Judged, Kind, Making, judges, made, stage}
-use Rattle.vw_course.specs.Follows.{May, IsAgain, BreaksOff}
-use Rattle.vw_course.specs.Endings.{SeenCall, IsCallOf}
+use Rattle.vw_course.specs.Follows.{May, Answer, IsAgain, BreaksOff}
+use Rattle.vw_course.specs.Endings.{SeenCall, Ends, IsCallOf}
 use Rattle.vw_course.specs.Places.{IsOneOf, Files, BreaksHere, ReadsAgainHere, RefusesHere, ReadsHere}
-use Rattle.vw_course.specs.Statuses.{NothingDone, DidSome, NoWork, IsReadStop, IsReadFault, IsRefused, Statuses}
+use Rattle.vw_course.specs.Statuses.{DidSome, IsReadStop, IsReadFault, IsRefused, HasStatus}
 use Rattle.vw_course.proofs.Inductions.{not_untold}
 use Rattle.vw_course.proofs.CallLaws.{shelf_alone}
 use Rattle.vw_course.proofs.CallTable.{call_table}
@@ -31,245 +32,211 @@ module _ {V : Vocabulary} (told : List ℕ → Told) {R : Type 0} (P Q : Course 
       says (makes A Good Bad Comes apart sure next) here all.0
   every_place (makes A Good Bad Comes apart sure next) all (inr (x, good, later)) = every_place (next x good) (all.1 x good) later
 
--- a file with its name is one of these
-one_is : (V : Vocabulary) (files : Files V) {file other : V.File} {name own : List ℕ} → file ≡ other → name ≡ own → IsOneOf files (other, own) → IsOneOf files (file, name)
-one_is V files is same one = rw (is, same) one
+-- ---- lists
 
--- ---- which files are read
+-- each of these is one of those
+abbrev pub AreAmong : {X : Type 0} → List X → List X → Type 0
+AreAmong {X = X} these those = (x : X) → IsOneOf these x → IsOneOf those x
 
-abbrev pub ReadsAgain : {V : Vocabulary} → Files V → Again V → Type 0
-ReadsAgain files once = Unit {0}
-ReadsAgain files (again file name Broken Allowed) = IsOneOf files (file, name)
+pub among_front : {X : Type 0} (these more : List X) → AreAmong these (these ++ more)
+among_front [] more x one = absurd one
+among_front (y ∷ these) more x (inl is) = inl is
+among_front (y ∷ these) more x (inr one) = inr (among_front these more x one)
 
-abbrev pub ReadsHeld : {V : Vocabulary} → (List ℕ → Told) → Again V → Type 0
-ReadsHeld told once = Unit {0}
-ReadsHeld told (again file name Broken Allowed) = (text : List ℕ) × (told name ≡ held text)
+pub among_back : {X : Type 0} (these more : List X) → AreAmong more (these ++ more)
+among_back [] more x one = one
+among_back (y ∷ these) more x one = inr (among_back these more x one)
 
--- only these files are read, or read again
-abbrev pub ReadsOnly : {V : Vocabulary} → Files V → Course V → Type 0
-ReadsOnly files (works over work) = ReadsAgain files over
-ReadsOnly files (refuses reason) = Unit {0}
-ReadsOnly files (reads file name next) = IsOneOf files (file, name)
-ReadsOnly files (makes A Good Bad Comes apart sure next) = Unit {0}
+-- a number is none of these
+abbrev pub IsNoneOf : List ℕ → ℕ → Type 0
+IsNoneOf [] number = Unit {0}
+IsNoneOf (one ∷ others) number = (number ≢ one) × IsNoneOf others number
 
--- no file is read again
-abbrev pub IsOnce : {V : Vocabulary} → Course V → Type 0
-IsOnce {V = V} (works over work) = ReadsAgain {V = V} [] over
-IsOnce (refuses reason) = Unit {0}
-IsOnce (reads file name next) = Unit {0}
-IsOnce (makes A Good Bad Comes apart sure next) = Unit {0}
+pub none_one : (numbers : List ℕ) (number : ℕ) → IsNoneOf numbers number → IsOneOf numbers number → ⊥
+none_one [] number none one = one
+none_one (other ∷ others) number none (inl is) = none.0 is
+none_one (other ∷ others) number none (inr one) = none_one others number none.1 one
 
--- each file that is read again is held
-abbrev pub IsHeldThere : {V : Vocabulary} → (List ℕ → Told) → Course V → Type 0
-IsHeldThere told (works over work) = ReadsHeld told over
-IsHeldThere told (refuses reason) = Unit {0}
-IsHeldThere told (reads file name next) = Unit {0}
-IsHeldThere told (makes A Good Bad Comes apart sure next) = Unit {0}
+pub none_both : (numbers more : List ℕ) (number : ℕ) → IsNoneOf numbers number → IsNoneOf more number → IsNoneOf (numbers ++ more) number
+none_both [] more number none also = also
+none_both (one ∷ numbers) more number none also = (none.0, none_both numbers more number none.1 also)
 
--- ---- with which statuses it is refused
+-- ---- what a course keeps to
 
-abbrev pub BreaksNever : {V : Vocabulary} → ℕ → Again V → Type 0
-BreaksNever number once = Unit {0}
-BreaksNever {V = V} number (again file name Broken Allowed) = (reason : V.Reason) → Broken reason → V.status reason ≢ number
+-- only these files are read again, and work is broken off with these statuses alone
+abbrev pub KeepsAgain : {V : Vocabulary} → Files V → List ℕ → Again V → Type 0
+KeepsAgain anew broken once = Unit {0}
+KeepsAgain {V = V} anew broken (again file name Broken Allowed) =
+    IsOneOf anew (file, name) × ((reason : V.Reason) → Broken reason → IsOneOf broken (V.status reason))
 
--- it is never broken off with this status
-abbrev pub IsUnbroken : {V : Vocabulary} → ℕ → Course V → Type 0
-IsUnbroken number (works over work) = BreaksNever number over
-IsUnbroken number (refuses reason) = Unit {0}
-IsUnbroken number (reads file name next) = Unit {0}
-IsUnbroken number (makes A Good Bad Comes apart sure next) = Unit {0}
+-- only these files are read, and those again; and it refuses with these statuses alone, and breaks off with those
+abbrev pub Keeps : {V : Vocabulary} → Files V → Files V → List ℕ → List ℕ → Course V → Type 0
+Keeps files anew numbers broken (works over work) = KeepsAgain anew broken over
+Keeps {V = V} files anew numbers broken (refuses reason) = IsOneOf numbers (V.status reason)
+Keeps files anew numbers broken (reads file name next) = IsOneOf files (file, name)
+Keeps {V = V} files anew numbers broken (makes A Good Bad Comes apart sure next) = (reason : V.Reason) → Bad reason → IsOneOf numbers (V.status reason)
 
--- it is never refused with this status
-abbrev pub IsNever : {V : Vocabulary} → ℕ → Course V → Type 0
-IsNever number (works over work) = Unit {0}
-IsNever {V = V} number (refuses reason) = V.status reason ≢ number
-IsNever number (reads file name next) = Unit {0}
-IsNever {V = V} number (makes A Good Bad Comes apart sure next) = (reason : V.Reason) → Bad reason → V.status reason ≢ number
+-- at every place
+abbrev pub KeepsTo : {V : Vocabulary} → Files V → Files V → List ℕ → List ℕ → Course V → Type 0
+KeepsTo files anew numbers broken course = Every (Keeps files anew numbers broken) course
 
--- ---- stages
+module _ {V : Vocabulary} (files anew : Files V) (numbers broken : List ℕ) where
+  one_number : {A : Type 0} {number : ℕ} (judged : Judged V A number) → IsOneOf numbers number → (reason : V.Reason) → judged.Bad reason → IsOneOf numbers (V.status reason)
+  one_number judged one reason bad = subst (IsOneOf numbers) (sym (judged.its_status reason bad)) one
 
--- this holds where something is judged or made, and where one of these files is read
-pub record IsPassed {V : Vocabulary} (files : Files V) (Q : Course V → Type 0) : Type 1 where
-  pub at_file : (file : V.File) (name : List ℕ) (next : List ℕ → Course V) → IsOneOf files (file, name) → Q (reads file name next)
-  pub at_making : (A : Type 0) (Good : A → Type 0) (Bad : V.Reason → Type 0) (Comes : Type 0)
-      (apart : (x : A) (reason : V.Reason) → Good x → Bad reason → ⊥) (sure : (reason : V.Reason) → Comes → Bad reason → ⊥)
-      (next : (x : A) → Good x → Course V) → Q (makes A Good Bad Comes apart sure next)
+  pub keeps_judged : {A : Type 0} {number : ℕ} (judged : Judged V A number) (next : A → Course V) → IsOneOf numbers number → ((x : A) → KeepsTo files anew numbers broken (next x)) → KeepsTo files anew numbers broken (judges judged next)
+  keeps_judged judged next one later = (one_number judged one, λ x good. later x)
 
--- so does that only these files are read, that none is read again, that nothing is broken off with a status, and that each file
--- that is read again is held
-module _ (V : Vocabulary) (files : Files V) where
-  pub passes_reads : IsPassed {V = V} files (ReadsOnly {V = V} files)
-  passes_reads = record { at_file = λ file name next one. one; at_making = λ A Good Bad Comes apart sure next. tt }
+  pub keeps_made : {A : Type 0} {number : ℕ} (making : Making V A number) (next : A → Course V) → IsOneOf numbers number → ((x : A) → KeepsTo files anew numbers broken (next x)) → KeepsTo files anew numbers broken (made making next)
+  keeps_made making next one later = (one_number making.judged one, λ x good. later x)
 
-  pub passes_once : IsPassed {V = V} files IsOnce
-  passes_once = record { at_file = λ file name next one. tt; at_making = λ A Good Bad Comes apart sure next. tt }
+  pub keeps_stage : {A : Type 0} (kind : Kind V A) (name : List ℕ) (next : A → Course V) → IsOneOf files (kind.file, name) → IsOneOf numbers kind.number → ((x : A) → KeepsTo files anew numbers broken (next x)) → KeepsTo files anew numbers broken (stage kind name next)
+  keeps_stage kind name next at one later = (at, λ text. keeps_judged (kind.judged text) next one later)
 
-  pub passes_unbroken : (number : ℕ) → IsPassed {V = V} files (IsUnbroken number)
-  passes_unbroken number = record { at_file = λ file name next one. tt; at_making = λ A Good Bad Comes apart sure next. tt }
+  -- so it keeps to more statuses
+  module _ (more : List ℕ) (all : AreAmong numbers more) where
+    more_here : (place : Course V) → Keeps files anew numbers broken place → Keeps files anew more broken place
+    more_here (works over work) is = is
+    more_here (refuses reason) one = all (V.status reason) one
+    more_here (reads file name next) one = one
+    more_here (makes A Good Bad Comes apart sure next) is = λ reason bad. all (V.status reason) (is reason bad)
 
-  pub passes_held : (told : List ℕ → Told) → IsPassed {V = V} files (IsHeldThere told)
-  passes_held told = record { at_file = λ file name next one. tt; at_making = λ A Good Bad Comes apart sure next. tt }
+    pub keeps_more : (course : Course V) → KeepsTo files anew numbers broken course → KeepsTo files anew more broken course
+    keeps_more (works over work) is = is
+    keeps_more (refuses reason) one = all (V.status reason) one
+    keeps_more (reads file name next) is = (is.0, λ text. keeps_more (next text) (is.1 text))
+    keeps_more (makes A Good Bad Comes apart sure next) is =
+        (more_here (makes A Good Bad Comes apart sure next) is.0, λ x good. keeps_more (next x good) (is.1 x good))
 
--- what so holds behind something that is judged or made, or behind a stage, holds at every place of the course with it
-module _ {V : Vocabulary} (files : Files V) (Q : Course V → Type 0) (passed : IsPassed files Q) where
-  pub every_judges : {A : Type 0} {number : ℕ} (judged : Judged V A number) (next : A → Course V) → ((x : A) → Every Q (next x)) → Every Q (judges judged next)
-  every_judges {A = A} judged next later = (
-    passed.at_making A judged.Good judged.Bad ((x : A) × judged.Good x) judged.apart (λ reason some bad. judged.apart some.0 reason some.1 bad) (λ x is. next x),
-    λ x good. later x,
-  )
+-- each of these files is held
+abbrev pub AreHeld : {F : Type 0} → (List ℕ → Told) → List (F × List ℕ) → Type 0
+AreHeld told [] = Unit {0}
+AreHeld told ((file, name) ∷ files) = ((text : List ℕ) × (told name ≡ held text)) × AreHeld told files
 
-  pub every_made : {A : Type 0} {number : ℕ} (making : Making V A number) (next : A → Course V) → ((x : A) → Every Q (next x)) → Every Q (made making next)
-  every_made {A = A} making next later = (
-    passed.at_making A making.judged.Good making.judged.Bad making.Comes making.judged.apart making.sure (λ x is. next x),
-    λ x good. later x,
-  )
+pub one_held : {F : Type 0} (told : List ℕ → Told) (files : List (F × List ℕ)) (file : F) (name : List ℕ) → AreHeld told files → IsOneOf files (file, name) → (text : List ℕ) × (told name ≡ held text)
+one_held told [] file name are one = absurd one
+one_held {F = F} told ((other, own) ∷ files) file name are (inl is) =
+    (are.0.0, subst (λ (p : F × List ℕ). told p.1 ≡ held are.0.0) (sym is) are.0.1)
+one_held told ((other, own) ∷ files) file name are (inr one) = one_held told files file name are.1 one
 
-  pub every_stage : {A : Type 0} (kind : Kind V A) (name : List ℕ) (next : A → Course V) → IsOneOf files (kind.file, name) → ((x : A) → Every Q (next x)) → Every Q (stage kind name next)
-  every_stage kind name next one later =
-      (passed.at_file kind.file name (λ text. judges (kind.judged text) next) one, λ text. every_judges (kind.judged text) next later)
+-- ---- what that says of its places
 
-module _ {V : Vocabulary} where
-  never_judged : {A : Type 0} {number : ℕ} (judged : Judged V A number) (other : ℕ) (reason : V.Reason) → number ≢ other → judged.Bad reason → V.status reason ≢ other
-  never_judged judged other reason differs bad is = differs (sym (judged.its_status reason bad) ∙ is)
+module _ {V : Vocabulary} (told : List ℕ → Told) (files anew : Files V) (numbers broken : List ℕ) (course : Course V) (keeps : KeepsTo files anew numbers broken course) where
+  abbrev Kept : Course V → Type 0
+  Kept = Keeps files anew numbers broken
 
-  pub never_stage : {A : Type 0} (number : ℕ) (kind : Kind V A) (name : List ℕ) (next : A → Course V) → kind.number ≢ number → ((x : A) → Every (IsNever number) (next x)) → Every (IsNever number) (stage kind name next)
-  never_stage number kind name next differs later =
-      (tt, λ text. (λ reason bad. never_judged (kind.judged text) number reason differs bad, λ x good. later x))
+  refused_here : (reason : V.Reason) (place : Course V) → RefusesHere reason place → Kept place → IsOneOf numbers (V.status reason)
+  refused_here reason (works over work) here is = absurd here
+  refused_here reason (refuses other) same one = subst (λ (r : V.Reason). IsOneOf numbers (V.status r)) (sym same) one
+  refused_here reason (reads file name next) here is = absurd here
+  refused_here reason (makes A Good Bad Comes apart sure next) bad is = is reason bad
 
-  pub never_judges : {A : Type 0} {its : ℕ} (number : ℕ) (judged : Judged V A its) (next : A → Course V) → its ≢ number → ((x : A) → Every (IsNever number) (next x)) → Every (IsNever number) (judges judged next)
-  never_judges number judged next differs later = (λ reason bad. never_judged judged number reason differs bad, λ x good. later x)
+  pub refused_one : (reason : V.Reason) → May told (RefusesHere reason) course → IsOneOf numbers (V.status reason)
+  refused_one reason may = every_place told (RefusesHere reason) Kept (refused_here reason) course keeps may
 
-  pub never_made : {A : Type 0} {its : ℕ} (number : ℕ) (making : Making V A its) (next : A → Course V) → its ≢ number → ((x : A) → Every (IsNever number) (next x)) → Every (IsNever number) (made making next)
-  never_made number making next differs later = (λ reason bad. never_judged making.judged number reason differs bad, λ x good. later x)
+  -- it never refuses with another status
+  pub no_refusal : (number : ℕ) → IsNoneOf numbers number → (reason : V.Reason) → V.status reason ≡ number → May told (RefusesHere reason) course → ⊥
+  no_refusal number none reason same may = none_one numbers number none (subst (IsOneOf numbers) same (refused_one reason may))
 
--- ---- what it says of a refusal
+  broken_by : (over : Again V) (reason : V.Reason) → BreaksOff over told reason → KeepsAgain anew broken over → IsOneOf broken (V.status reason)
+  broken_by once reason breaks is = absurd breaks
+  broken_by (again file name Broken Allowed) reason breaks is = is.1 reason breaks.1
 
-module _ {V : Vocabulary} (told : List ℕ → Told) (number : ℕ) (course : Course V) where
-  not_here : (reason : V.Reason) → V.status reason ≡ number → (place : Course V) → RefusesHere reason place → IsNever number place → ⊥
-  not_here reason same (works over work) refused none = refused
-  not_here reason same (refuses other) refused none = none (subst (λ (r : V.Reason). V.status r ≡ number) refused same)
-  not_here reason same (reads file name next) refused none = refused
-  not_here reason same (makes A Good Bad Comes apart sure next) refused none = none reason refused same
+  broken_here : (reason : V.Reason) (did : Work V.Word) (place : Course V) → BreaksHere told reason did place → Kept place → IsOneOf broken (V.status reason)
+  broken_here reason did (works over work) breaks is = broken_by over reason breaks.1 is
+  broken_here reason did (refuses other) breaks is = absurd breaks
+  broken_here reason did (reads file name next) breaks is = absurd breaks
+  broken_here reason did (makes A Good Bad Comes apart sure next) breaks is = absurd breaks
 
-  pub no_refusal : Every (IsNever number) course → (reason : V.Reason) → V.status reason ≡ number → May told (RefusesHere reason) course → ⊥
-  no_refusal never reason same may = every_place told (RefusesHere reason) (IsNever number) (not_here reason same) course never may
+  pub broken_one : (reason : V.Reason) (did : Work V.Word) → May told (BreaksHere told reason did) course → IsOneOf broken (V.status reason)
+  broken_one reason did may = every_place told (BreaksHere told reason did) Kept (broken_here reason did) course keeps may
 
-  unbroken : (over : Again V) (reason : V.Reason) → V.status reason ≡ number → BreaksOff over told reason → BreaksNever number over → ⊥
-  unbroken once reason same breaks none = breaks
-  unbroken (again file name Broken Allowed) reason same breaks none = none reason breaks.1 same
+  -- nor does it break off with another one
+  pub no_break : (number : ℕ) → IsNoneOf broken number → (reason : V.Reason) (did : Work V.Word) → V.status reason ≡ number → May told (BreaksHere told reason did) course → ⊥
+  no_break number none reason did same may = none_one broken number none (subst (IsOneOf broken) same (broken_one reason did may))
 
-  not_broken : (reason : V.Reason) (did : Work V.Word) → V.status reason ≡ number → (place : Course V) → BreaksHere told reason did place → IsUnbroken number place → ⊥
-  not_broken reason did same (works over work) breaks none = unbroken over reason same breaks.1 none
-  not_broken reason did same (refuses other) breaks none = breaks
-  not_broken reason did same (reads file name next) breaks none = breaks
-  not_broken reason did same (makes A Good Bad Comes apart sure next) breaks none = breaks
+  -- nor at all where the files that it reads again are held
+  held_whole : AreHeld told anew → (over : Again V) (reason : V.Reason) → BreaksOff over told reason → KeepsAgain anew broken over → ⊥
+  held_whole are once reason breaks is = breaks
+  held_whole are (again file name Broken Allowed) reason breaks is =
+      let one = one_held told anew file name are is.0 in not_untold (told name) one.0 one.1 breaks.0
 
-  pub no_break : Every (IsUnbroken number) course → (reason : V.Reason) (did : Work V.Word) → V.status reason ≡ number → May told (BreaksHere told reason did) course → ⊥
-  no_break whole reason did same may = every_place told (BreaksHere told reason did) (IsUnbroken number) (not_broken reason did same) course whole may
+  whole_here : AreHeld told anew → (reason : V.Reason) (did : Work V.Word) (place : Course V) → BreaksHere told reason did place → Kept place → ⊥
+  whole_here are reason did (works over work) breaks is = held_whole are over reason breaks.1 is
+  whole_here are reason did (refuses other) breaks is = breaks
+  whole_here are reason did (reads file name next) breaks is = breaks
+  whole_here are reason did (makes A Good Bad Comes apart sure next) breaks is = breaks
 
--- ---- files that are read again and are held
+  pub no_break_held : AreHeld told anew → (reason : V.Reason) (did : Work V.Word) → May told (BreaksHere told reason did) course → ⊥
+  no_break_held are reason did may = every_place told (BreaksHere told reason did) Kept (whole_here are reason did) course keeps may
 
-module _ {V : Vocabulary} (told : List ℕ → Told) (course : Course V) where
-  held_whole : (over : Again V) (reason : V.Reason) → BreaksOff over told reason → ReadsHeld told over → ⊥
-  held_whole once reason breaks held_is = breaks
-  held_whole (again file name Broken Allowed) reason breaks (text, is) = not_untold (told name) text is breaks.0
+  -- ---- which files are read
 
-  unbroken_held : (reason : V.Reason) (did : Work V.Word) (place : Course V) → BreaksHere told reason did place → IsHeldThere told place → ⊥
-  unbroken_held reason did (works over work) breaks held_is = held_whole over reason breaks.1 held_is
-  unbroken_held reason did (refuses other) breaks held_is = breaks
-  unbroken_held reason did (reads file name next) breaks held_is = breaks
-  unbroken_held reason did (makes A Good Bad Comes apart sure next) breaks held_is = breaks
+  one_is : (those : Files V) {file other : V.File} {name own : List ℕ} → file ≡ other → name ≡ own → IsOneOf those (other, own) → IsOneOf those (file, name)
+  one_is those is same one = rw (is, same) one
 
-  -- then no work is broken off
-  pub no_break_held : Every (IsHeldThere told) course → (reason : V.Reason) (did : Work V.Word) → May told (BreaksHere told reason did) course → ⊥
-  no_break_held all reason did may = every_place told (BreaksHere told reason did) (IsHeldThere told) (unbroken_held reason did) course all may
+  read_here : (file : V.File) (name : List ℕ) (place : Course V) → ReadsHere file name place → Kept place → IsOneOf files (file, name)
+  read_here file name (works over work) here is = absurd here
+  read_here file name (refuses reason) here is = absurd here
+  read_here file name (reads its own next) (is, same) one = one_is files is same one
+  read_here file name (makes A Good Bad Comes apart sure next) here is = absurd here
+
+  read_one : (file : V.File) (name : List ℕ) → May told (ReadsHere file name) course → IsOneOf files (file, name)
+  read_one file name may = every_place told (ReadsHere file name) Kept (read_here file name) course keeps may
+
+  again_by : (over : Again V) (file : V.File) (name : List ℕ) → IsAgain over file name → KeepsAgain anew broken over → IsOneOf anew (file, name)
+  again_by once file name its is = absurd its
+  again_by (again other own Broken Allowed) file name (same, so) is = one_is anew same so is.0
+
+  again_here : (file : V.File) (name : List ℕ) (did : Work V.Word) (place : Course V) → ReadsAgainHere told file name did place → Kept place → IsOneOf anew (file, name)
+  again_here file name did (works over work) here is = again_by over file name here.1 is
+  again_here file name did (refuses reason) here is = absurd here
+  again_here file name did (reads its own next) here is = absurd here
+  again_here file name did (makes A Good Bad Comes apart sure next) here is = absurd here
+
+  pub again_one : (file : V.File) (name : List ℕ) (did : Work V.Word) → May told (ReadsAgainHere told file name did) course → IsOneOf anew (file, name)
+  again_one file name did may = every_place told (ReadsAgainHere told file name did) Kept (again_here file name did) course keeps may
 
 -- ---- what it says of a call
 
-module _ {V : Vocabulary} (course : Course V) (call : SeenCall V.Word) (is : IsCallOf course call) where
+module _ {V : Vocabulary} (files anew : Files V) (numbers broken : List ℕ) (course : Course V) (keeps : KeepsTo files anew numbers broken course) (call : SeenCall V.Word) (is : IsCallOf course call) where
   abbrev told : List ℕ → Told
   told = call.before.shelf.told
 
-  abbrev table : Statuses course call
-  table = call_table course call is
-
-  module _ (number : ℕ) (never : Every (IsNever number) course) (whole : Every (IsUnbroken number) course) where
-    none_of : (refused : IsRefused course call) → V.status refused.reason ≡ number → ⊥
-    none_of refused same = by refused.cause where
+  -- it ends with one of its statuses
+  module _ (also : AreAmong broken numbers) where
+    one_of : (refused : IsRefused course call) → IsOneOf numbers (V.status refused.reason)
+    one_of refused = by refused.cause where
       by : (May told (RefusesHere refused.reason) course × (call.after ≡ call.before))
-          ⊎ ((did : Work V.Word) × May told (BreaksHere told refused.reason did) course × (call.after.shelf ≡ call.before.shelf) × DidPart did call.before call.after) → ⊥
-      by (inl (may, same_outside)) = no_refusal told number course never refused.reason same may
-      by (inr (did, may, shelf, part)) = no_break told number course whole refused.reason did same may
+          ⊎ ((did : Work V.Word) × May told (BreaksHere told refused.reason did) course × (call.after.shelf ≡ call.before.shelf) × DidPart did call.before call.after)
+          → IsOneOf numbers (V.status refused.reason)
+      by (inl (may, same)) = refused_one told files anew numbers broken course keeps refused.reason may
+      by (inr (did, may, shelf, part)) = also (V.status refused.reason) (broken_one told files anew numbers broken course keeps refused.reason did may)
 
-    -- this is no status of the command
-    pub never_status : 0 < number → IsNoStop number → call.status ≢ number
-    never_status some few status =
-        let refused = table.refused (subst (λ (n : ℕ). 0 < n) (sym status) some) (subst IsNoStop (sym status) few) in
-        none_of refused (sym refused.status ∙ status)
+    status_by : (answer : Answer V) → Ends V answer call.err_before call.err_after call.status → HasStatus numbers call
+    status_by (Ok done) ends = inl ends.0
+    status_by (Err (ReadFault file)) ends = inr (inl ends.0)
+    status_by (Err WriteFault) ends = inr (inr (inl ends.0))
+    status_by (Err NoMemory) ends = inr (inr (inr (inl ends.0)))
+    status_by (Err (Refused reason)) ends =
+        let refused = (call_table course call is).refused (subst (λ (n : ℕ). 0 < n) (sym ends.0) (V.some reason)) (subst IsNoStop (sym ends.0) (V.few reason)) in
+        inr (inr (inr (inr (subst (IsOneOf numbers) (sym refused.status) (one_of refused)))))
 
-  -- ---- the file at which a read failed
+    pub comes : HasStatus numbers call
+    comes = status_by is.answer is.ends
 
-  module _ (files : Files V) (only : Every (ReadsOnly files) course) where
-    one_here : (file : V.File) (name : List ℕ) (place : Course V) → ReadsHere file name place → ReadsOnly files place → IsOneOf files (file, name)
-    one_here file name (works over work) here all = absurd here
-    one_here file name (refuses reason) here all = absurd here
-    one_here file name (reads its own next) (is, same) all = one_is V files is same all
-    one_here file name (makes A Good Bad Comes apart sure next) here all = absurd here
+  -- a read fault was counted at one of its files; where it was read again, a part of such work was done
+  module _ (also : AreAmong anew files) (What : Work V.Word → Type 0) (says : (file : V.File) (name : List ℕ) (did : Work V.Word) → May told (ReadsAgainHere told file name did) course → What did) where
+    abbrev Cause : V.File → List ℕ → Type 0
+    Cause file name = (May told (ReadsHere file name) course × ShelfAlone call.before call.after)
+        ⊎ ((did : Work V.Word) × May told (ReadsAgainHere told file name did) course × DidPart did call.before call.after)
 
-    one_again : (over : Again V) (file : V.File) (name : List ℕ) → IsAgain over file name → ReadsAgain files over → IsOneOf files (file, name)
-    one_again once file name its all = absurd its
-    one_again (again other own Broken Allowed) file name (is, same) all = one_is V files is same all
+    file_by : (file : V.File) (name : List ℕ) → Cause file name → IsOneOf files (file, name) × DidSome What call.before call.after
+    file_by file name (inl (may, alone)) = (read_one told files anew numbers broken course keeps file name may, inl (shelf_alone V call.before call.after alone))
+    file_by file name (inr (did, may, part)) = (also (file, name) (again_one told files anew numbers broken course keeps file name did may), inr (did, says file name did may, part))
 
-    again_here : (file : V.File) (name : List ℕ) (did : Work V.Word) (place : Course V) → ReadsAgainHere told file name did place → ReadsOnly files place → IsOneOf files (file, name)
-    again_here file name did (works over work) here all = one_again over file name here.1 all
-    again_here file name did (refuses reason) here all = absurd here
-    again_here file name did (reads its own next) here all = absurd here
-    again_here file name did (makes A Good Bad Comes apart sure next) here all = absurd here
-
-    one_of : (fault : IsReadFault course call) → IsOneOf files (fault.file, fault.name)
-    one_of fault = by fault.cause where
-      by : (May told (ReadsHere fault.file fault.name) course × ShelfAlone call.before call.after)
-          ⊎ ((did : Work V.Word) × May told (ReadsAgainHere told fault.file fault.name did) course × DidPart did call.before call.after)
-          → IsOneOf files (fault.file, fault.name)
-      by (inl (may, alone)) =
-          every_place told (ReadsHere fault.file fault.name) (ReadsOnly files) (one_here fault.file fault.name) course only may
-      by (inr (did, may, part)) =
-          every_place told (ReadsAgainHere told fault.file fault.name did) (ReadsOnly files) (again_here fault.file fault.name did) course only may
-
-    -- a read fault was counted at one of these files; where it was read again, a part of such work was done
-    pub fault_at_one : (What : Work V.Word → Type 0) → ((file : V.File) (name : List ℕ) (did : Work V.Word) → May told (ReadsAgainHere told file name did) course → What did)
-        → call.status ≡ 7 → IsReadStop V What files call
-    fault_at_one What says status =
-        let fault = table.read_fault status in
-        record { file = fault.file; name = fault.name; one = one_of fault; status = status; counted = fault.counted; part = by fault fault.cause; message = fault.message } where
-          by : (fault : IsReadFault course call) → (May told (ReadsHere fault.file fault.name) course × ShelfAlone call.before call.after)
-              ⊎ ((did : Work V.Word) × May told (ReadsAgainHere told fault.file fault.name did) course × DidPart did call.before call.after)
-              → DidSome What call.before call.after
-          by fault (inl (may, alone)) = inl (shelf_alone V call.before call.after alone)
-          by fault (inr (did, may, part)) = inr (did, says fault.file fault.name did may, part)
-
-    module _ (first : Every IsOnce course) where
-      not_again : (over : Again V) (file : V.File) (name : List ℕ) → IsAgain over file name → ReadsAgain {V = V} [] over → ⊥
-      not_again once file name its none = its
-      not_again (again other own Broken Allowed) file name its none = none
-
-      not_again_here : (file : V.File) (name : List ℕ) (did : Work V.Word) (place : Course V) → ReadsAgainHere told file name did place → IsOnce place → ⊥
-      not_again_here file name did (works over work) here none = not_again over file name here.1 none
-      not_again_here file name did (refuses reason) here none = here
-      not_again_here file name did (reads its own next) here none = here
-      not_again_here file name did (makes A Good Bad Comes apart sure next) here none = here
-
-      nothing_then : (fault : IsReadFault course call) → NothingDone call.before call.after
-      nothing_then fault = by fault.cause where
-        by : (May told (ReadsHere fault.file fault.name) course × ShelfAlone call.before call.after)
-            ⊎ ((did : Work V.Word) × May told (ReadsAgainHere told fault.file fault.name did) course × DidPart did call.before call.after)
-            → NothingDone call.before call.after
-        by (inl (may, alone)) = shelf_alone V call.before call.after alone
-        by (inr (did, may, part)) =
-            absurd (every_place told (ReadsAgainHere told fault.file fault.name did) IsOnce (not_again_here fault.file fault.name did) course first may)
-
-      -- a read fault was counted at one of these files, and out and the links are as they were
-      pub fault_at : call.status ≡ 7 → IsReadStop V NoWork files call
-      fault_at status =
-          let fault = table.read_fault status in
-          record { file = fault.file; name = fault.name; one = one_of fault; status = status; counted = fault.counted; part = inl (nothing_then fault); message = fault.message }
+    pub fault_at : call.status ≡ 7 → IsReadStop V What files call
+    fault_at status =
+        let fault = (call_table course call is).read_fault status in
+        let by = file_by fault.file fault.name fault.cause in
+        record { file = fault.file; name = fault.name; one = by.0; status = status; counted = fault.counted; part = by.1; message = fault.message }

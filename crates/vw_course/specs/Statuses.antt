@@ -144,6 +144,10 @@ WritesAlone text call = call.after ≡ with_all (writing text) call.before
 abbrev pub IsUnworked : {Word : Type 0} → List ℕ → SeenCall Word → Type 0
 IsUnworked numbers call = NothingDone call.before call.after × IsOneOf (7 ∷ 9 ∷ numbers) call.status
 
+-- the status is 0, 7, 8 or 9, or one of these
+abbrev pub HasStatus : {Word : Type 0} → List ℕ → SeenCall Word → Type 0
+HasStatus numbers call = IsOneOf (0 ∷ 7 ∷ 8 ∷ 9 ∷ numbers) call.status
+
 -- a count is as a fault would leave it
 abbrev pub IsOneMore : ℕ → ℕ → Type 0
 IsOneMore before now = now ≡ one_more before
@@ -163,3 +167,33 @@ CompletesAt V files call =
 -- so much of a text was written: a part of it, and a write may have failed behind it
 abbrev pub LeavesPart : List ℕ → SeenSink → SeenSink → Type 0
 LeavesPart text before after = WrotePart text before after ⊎ FailedAfterPart text before after
+
+-- ---- what tables of commands have in common
+
+-- of a file of this name whose text may be bad, with this status, and that comes next where other texts are such. The files
+-- are all up to it, and those before it refuse with these statuses
+pub record FileStatuses (V : Vocabulary) (files : Files V) (name earlier : List ℕ) (number : ℕ) (Bad : List ℕ → V.Reason → Type 0) (IsNoText : List ℕ → Type 0) (IsNext : SeenCall V.Word → Type 0) (call : SeenCall V.Word) : Type 0 where
+  -- the call is refused with this status exactly where its text is bad
+  pub bad : (text : List ℕ) → Holds call name text → call.status ≡ number → IsRefusedFor V (Bad text) call
+  pub bad_comes : (text : List ℕ) → Holds call name text → IsNext call → IsNoText text → IsRefusedFor V (Bad text) call ⊎ IsStopped V files call
+  -- a file that is told to be absent is a read fault, unless memory runs out, or an earlier file is refused before
+  pub absent : IsAbsent call name → IsUnworked earlier call
+  pub absent_next : IsAbsent call name → IsNext call → IsStopped V files call
+
+-- of the end of a command with these files. It does such work of held texts, and whatever they are, any such work at most;
+-- and it is accepted where something is ready, of which it then does the work
+pub record EndStatuses (V : Vocabulary) (files : Files V) {T X : Type 0} (Hold : SeenCall V.Word → T → Type 0) (Does : T → Work V.Word → Type 0) (Any : Work V.Word → Type 0)
+    (IsReady : SeenCall V.Word → X → Type 0) (DoesOf : X → Work V.Word → Type 0) (call : SeenCall V.Word) : Type 0 where
+  -- 0: the work is done, and nothing else changed
+  pub done : (texts : T) → Hold call texts → call.status ≡ 0 → IsDone (Does texts) call
+  -- 7: a fault was counted at one of the files, over every shelf; a part of any such work was done at most, and where the texts
+  -- are held, of their own
+  pub read_fault : call.status ≡ 7 → IsReadStop V Any files call
+  pub read_fault_held : (texts : T) → Hold call texts → call.status ≡ 7 → IsReadStop V (Does texts) files call
+  -- 8: a fault was counted at out, which has a part of the text
+  pub write_fault : (texts : T) → Hold call texts → call.status ≡ 8 → IsWriteStop (Does texts) call
+  -- 9: out has a part of the text at most
+  pub want_of_memory : (texts : T) → Hold call texts → call.status ≡ 9 → IsMemoryStop (Does texts) call
+  -- what is ready is carried out, unless the outside stops the call; and where no count rose, unless memory runs out
+  pub accepted : (x : X) → IsReady call x → IsCarriedOut V (DoesOf x) files call
+  pub complete : (x : X) → IsReady call x → CompletesAt V files call

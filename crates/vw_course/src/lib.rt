@@ -1,5 +1,5 @@
-//! Courses of commands: what a command reads, why it refuses, what it does, and how a call of it ends. Which files
-//! there are, and which reasons to refuse, is up to the program.
+//! Courses of commands: what a command reads, why it refuses, what it does, and how a call of it ends. Which files there
+//! are, and which reasons to refuse, is up to the program. In the field: a specification of observable behaviour.
 #![tactic(auto)]
 
 mod answers;

@@ -24,7 +24,7 @@ use Rattle.vw_plan.specs.HopCounts.{hop_count}
 use Rattle.vw_plantext.specs.Content.{content_of}
 use Rattle.vw_plantext.specs.Grammar.{spelling}
 use Rattle.vw_prog.specs.declared.word.Word.{Word}
-use Rattle.vw_boardtext.specs.Emitted.{emitted_text}
+use Rattle.vw_emit_text.specs.Emitted.{emitted_text}
 use Rattle.vw_resume.specs.declared.state.State.{State}
 use Rattle.vw_resume.specs.States.{state_text}
 use Rattle.vw_resume.specs.Resumed.{resumed_trace}
@@ -42,6 +42,7 @@ use Rattle.vw_courses.specs.Help.{help_text, version_text}
 use Rattle.vw_courses.specs.Demo.{board_name, design_name, generated, stimulus_name}
 use Rattle.vw_gen.specs.Summary.{summary}
 use Rattle.vw_courses.specs.Messages.{vocabulary, CallWork}
+use Rattle.vw_courses.specs.MayPlan.{PlanBy, made_here, of_file, for_chips, by_file, by_chips}
 use Rattle.vw_courses.specs.Kinds.{design_kind, netlist_kind, named_kind, rows_kind, IsBadAgain, board_kind, plan_kind, chips_kind, soundness, planning, planning_for, emission, state_kind, clocks_fit}
 
 -- ---- traces
@@ -167,22 +168,27 @@ abbrev pub Rest : Type 1
 Rest = Ordered → Board → Plan → Course vocabulary
 
 -- a plan that is given is judged
-abbrev pub given_sound_course : Rest → Ordered → Board → Plan → Course vocabulary
-given_sound_course rest ordered board plan =
-    judges (soundness (planned_board ordered board plan)) (λ done. rest ordered board plan)
+abbrev pub sound_then : Ordered → Board → (Plan → Course vocabulary) → Plan → Course vocabulary
+sound_then ordered board next plan = judges (soundness (planned_board ordered board plan)) (λ done. next plan)
 
--- a plan is made, which is good; or one is given, and read before it is judged
-abbrev pub with_plan_course : Option (List ℕ) → Rest → Ordered → Board → Course vocabulary
-with_plan_course None rest ordered board = made (planning ordered board) (rest ordered board)
-with_plan_course (Some plan) rest ordered board = stage plan_kind plan (given_sound_course rest ordered board)
+-- a plan is made for chips that are given
+abbrev pub placed_then : Ordered → Board → (Plan → Course vocabulary) → List ℕ → Course vocabulary
+placed_then ordered board next chips = made (planning_for ordered board chips) next
+
+-- it goes on by a plan that it makes, which is good; or it reads the one that is given, and judges it; or it reads chips, and
+-- makes one for them
+abbrev pub plan_then : PlanBy → Ordered → Board → (Plan → Course vocabulary) → Course vocabulary
+plan_then made_here ordered board next = made (planning ordered board) next
+plan_then (of_file plan) ordered board next = stage plan_kind plan (sound_then ordered board next)
+plan_then (for_chips chips) ordered board next = stage chips_kind chips (placed_then ordered board next)
 
 -- the board before it
-abbrev pub on_board_course : List ℕ → Option (List ℕ) → Rest → Ordered → Course vocabulary
-on_board_course board given rest ordered = stage board_kind board (with_plan_course given rest ordered)
+abbrev pub on_board_course : List ℕ → PlanBy → Rest → Ordered → Course vocabulary
+on_board_course board by rest ordered = stage board_kind board (λ on. plan_then by ordered on (rest ordered on))
 
 -- the design first
-abbrev pub ready_course : List ProbeWord → List ℕ → List ℕ → Option (List ℕ) → Rest → Course vocabulary
-ready_course probes design board given rest = stage (netlist_kind probes) design (on_board_course board given rest)
+abbrev pub ready_course : List ProbeWord → List ℕ → List ℕ → PlanBy → Rest → Course vocabulary
+ready_course probes design board by rest = stage (netlist_kind probes) design (on_board_course board by rest)
 
 -- ---- check
 
@@ -196,7 +202,7 @@ abbrev pub size_rest : Rest
 size_rest ordered board plan = writes (sound_text plan)
 
 abbrev pub check_course : List ProbeWord → List ℕ → List ℕ → List ℕ → Course vocabulary
-check_course probes design board plan = ready_course probes design board (Some plan) size_rest
+check_course probes design board plan = ready_course probes design board (of_file plan) size_rest
 
 -- ---- plan
 
@@ -207,26 +213,8 @@ text_of_plan plan = spelling (content_of plan)
 abbrev pub plan_rest : Rest
 plan_rest ordered board plan = writes (text_of_plan plan)
 
-abbrev pub plan_course : List ProbeWord → List ℕ → List ℕ → Course vocabulary
-plan_course probes design board = ready_course probes design board None plan_rest
-
--- the same for given chips: they are read behind the board, and then a plan with them is made
-abbrev pub placed_course : Ordered → Board → List ℕ → Course vocabulary
-placed_course ordered board chips = made (planning_for ordered board chips) (plan_rest ordered board)
-
-abbrev pub chips_course : List ℕ → Ordered → Board → Course vocabulary
-chips_course chips ordered board = stage chips_kind chips (placed_course ordered board)
-
-abbrev pub chips_on_board_course : List ℕ → List ℕ → Ordered → Course vocabulary
-chips_on_board_course board chips ordered = stage board_kind board (chips_course chips ordered)
-
-abbrev pub plan_for_course : List ProbeWord → List ℕ → List ℕ → List ℕ → Course vocabulary
-plan_for_course probes design board chips = stage (netlist_kind probes) design (chips_on_board_course board chips)
-
--- where they are given
-abbrev pub plan_with_course : List ProbeWord → List ℕ → List ℕ → Option (List ℕ) → Course vocabulary
-plan_with_course probes design board None = plan_course probes design board
-plan_with_course probes design board (Some chips) = plan_for_course probes design board chips
+abbrev pub plan_course : List ProbeWord → List ℕ → List ℕ → PlanBy → Course vocabulary
+plan_course probes design board by = ready_course probes design board by plan_rest
 
 -- ---- emit
 
@@ -235,8 +223,8 @@ abbrev pub emit_rest : Rest
 emit_rest ordered board plan =
     judges (emission (planned_board ordered board plan)) (λ done. writes (emitted_text (planned_board ordered board plan)))
 
-abbrev pub emit_course : List ℕ → List ℕ → Option (List ℕ) → Course vocabulary
-emit_course design board given = ready_course [] design board given emit_rest
+abbrev pub emit_course : List ℕ → List ℕ → PlanBy → Course vocabulary
+emit_course design board by = ready_course [] design board by emit_rest
 
 -- ---- run
 
@@ -255,13 +243,13 @@ board_course stimulus text workers unknown ordered board plan =
     netlist_course stimulus text (board_scripts workers unknown (planned_board ordered board plan)) ordered
 
 -- such a board is made ready before
-abbrev pub over_rows_course : List ProbeWord → List ℕ → List ℕ → Option (List ℕ) → List ℕ → TextOver Ordered → ℕ → Bool → Course vocabulary
-over_rows_course probes design board given stimulus text workers unknown =
-    ready_course probes design board given (board_course stimulus text workers unknown)
+abbrev pub over_rows_course : List ProbeWord → List ℕ → List ℕ → PlanBy → List ℕ → TextOver Ordered → ℕ → Bool → Course vocabulary
+over_rows_course probes design board by stimulus text workers unknown =
+    ready_course probes design board by (board_course stimulus text workers unknown)
 
-abbrev pub run_course : List ProbeWord → List ℕ → List ℕ → Option (List ℕ) → List ℕ → ℕ → Bool → Course vocabulary
-run_course probes design board given stimulus workers unknown =
-    over_rows_course probes design board given stimulus (netlist_trace (length probes) unknown) workers unknown
+abbrev pub run_course : List ProbeWord → List ℕ → List ℕ → PlanBy → List ℕ → ℕ → Bool → Course vocabulary
+run_course probes design board by stimulus workers unknown =
+    over_rows_course probes design board by stimulus (netlist_trace (length probes) unknown) workers unknown
 
 -- ---- save
 
@@ -273,9 +261,9 @@ saved_of unknown watched rows = state_text (length rows) (path_history watched.d
 abbrev pub netlist_state : Bool → TextOver Ordered
 netlist_state unknown ordered = saved_text unknown ordered.flat
 
-abbrev pub save_course : List ℕ → List ℕ → Option (List ℕ) → List ℕ → ℕ → Bool → Course vocabulary
-save_course design board given stimulus workers unknown =
-    over_rows_course [] design board given stimulus (netlist_state unknown) workers unknown
+abbrev pub save_course : List ℕ → List ℕ → PlanBy → List ℕ → ℕ → Bool → Course vocabulary
+save_course design board by stimulus workers unknown =
+    over_rows_course [] design board by stimulus (netlist_state unknown) workers unknown
 
 -- ---- resume
 
@@ -290,14 +278,14 @@ abbrev pub resume_rest : List ℕ → List ℕ → ℕ → Rest
 resume_rest state stimulus workers ordered board plan =
     stage (state_kind (latch_count ordered.flat.cells)) state (state_course stimulus workers (planned_board ordered board plan))
 
-abbrev pub resume_course : List ℕ → List ℕ → Option (List ℕ) → List ℕ → List ℕ → ℕ → Course vocabulary
-resume_course design board given state stimulus workers = ready_course [] design board given (resume_rest state stimulus workers)
+abbrev pub resume_course : List ℕ → List ℕ → PlanBy → List ℕ → List ℕ → ℕ → Course vocabulary
+resume_course design board by state stimulus workers = ready_course [] design board by (resume_rest state stimulus workers)
 
 -- ---- demo
 
 -- the run of a demo: no net is watched, and free latches start at 0
 abbrev pub demo_run : ℕ → Course vocabulary
-demo_run workers = run_course [] design_name board_name None stimulus_name workers false
+demo_run workers = run_course [] design_name board_name made_here stimulus_name workers false
 
 -- it goes over the generated texts, and a summary of its trace is written
 abbrev pub demo_course : ℕ → ℕ → Course vocabulary
@@ -312,16 +300,16 @@ usage_course place = refuses (Usage place)
 abbrev pub course_of : Spelled → Course vocabulary
 course_of (words.sim design stimulus unknown probes) = sim_course probes design stimulus unknown
 course_of (words.check design board plan probes) = check_course probes design board plan
-course_of (words.plan design board chips probes) = plan_with_course probes design board chips
+course_of (words.plan design board chips probes) = plan_course probes design board (by_chips chips)
 course_of (words.run design board stimulus given workers unknown probes) =
-    run_course probes design board given stimulus workers unknown
+    run_course probes design board (by_file given) stimulus workers unknown
 course_of (words.demo cells workers) = demo_course cells workers
 course_of (words.wave design stimulus unknown probes) = wave_course probes design stimulus unknown
 course_of (words.grade design stimulus workers unknown) = grade_course design stimulus unknown
 course_of (words.nets design probes) = nets_course probes design
-course_of (words.save design board stimulus given workers unknown) = save_course design board given stimulus workers unknown
-course_of (words.resume design board state stimulus given workers) = resume_course design board given state stimulus workers
-course_of (words.emit design board given) = emit_course design board given
+course_of (words.save design board stimulus given workers unknown) = save_course design board (by_file given) stimulus workers unknown
+course_of (words.resume design board state stimulus given workers) = resume_course design board (by_file given) state stimulus workers
+course_of (words.emit design board given) = emit_course design board (by_file given)
 course_of words.help = writes help_text
 course_of words.version = writes version_text
 course_of (words.nothing place) = usage_course place

@@ -29,10 +29,10 @@ use Rattle.vw_check.specs.Faults.{chips_fault, plan_fault}
 use Rattle.vw_check.proofs.SoundPlans.{faultless, placed_chips}
 use Rattle.vw_rows.specs.declared.fault.StimFault.{StimFault}
 use Rattle.vw_rows.specs.Stimulus.{stimulus_rows, is_text_fault}
-use Rattle.vw_boardtext.specs.declared.fault.EmitFault.{EmitFault}
-use Rattle.vw_boardtext.specs.Emitted.{FitsDesigns, IsEmitFault}
-use Rattle.vw_boardtext.specs.Messages.{is_emit_fault}
-use Rattle.vw_boardtext.proofs.Limits.{fits_apart}
+use Rattle.vw_emit_text.specs.declared.fault.EmitFault.{EmitFault}
+use Rattle.vw_emit_text.specs.Emitted.{FitsDesigns, IsEmitFault}
+use Rattle.vw_emit_text.specs.Messages.{is_emit_fault}
+use Rattle.vw_emit_text.proofs.Limits.{fits_apart}
 use Rattle.vw_resume.specs.declared.fault.StateFault.{StateFault}
 use Rattle.vw_resume.specs.declared.fault.StateFault.TheVariants.{TooManyClocks}
 use Rattle.vw_resume.specs.declared.state.State.{State}

@@ -10,7 +10,7 @@ use Rattle.vw_board.specs.Messages.{fault_text as board_fault_text}
 use Rattle.vw_plantext.specs.Messages.{fault_text as plan_text_fault_text}
 use Rattle.vw_check.specs.Messages.{fault_text as plan_fault_text}
 use Rattle.vw_prog.specs.declared.word.Word.{Word}
-use Rattle.vw_boardtext.specs.Messages.{fault_text as emit_fault_text}
+use Rattle.vw_emit_text.specs.Messages.{fault_text as emit_fault_text}
 use Rattle.vw_resume.specs.Messages.{fault_text as state_fault_text}
 use Rattle.vw_run.specs.Messages.{fault_text as compile_fault_text}
 use Rattle.vw_rows.specs.Messages.{fault_text as stimulus_fault_text}

@@ -46,6 +46,7 @@ chips_setting = record { name = codes "chips"; value = name; times = 1 }
 abbrev pub workers_setting : Setting
 workers_setting = record { name = codes "workers"; value = number 1 64; times = 1 }
 
+-- the value of latches that start unknown: 0 where none is given
 abbrev pub unknown_given : List (List ℕ) → Bool
 unknown_given settings = bit_given unknown_setting false settings
 
@@ -63,35 +64,43 @@ cells_given word = max 1 (min (number_or_zero word) 20000)
 
 -- ---- what words of the form of a command spell
 
+-- what words of the form of `sim` spell
 abbrev pub sim_of : List (List ℕ) → Option Spelled
 sim_of (verb ∷ design ∷ stimulus ∷ settings) = Some (sim design stimulus (unknown_given settings) (probes_given settings))
 sim_of words = None
 
+-- what words of the form of `wave` spell
 abbrev pub wave_of : List (List ℕ) → Option Spelled
 wave_of (verb ∷ design ∷ stimulus ∷ settings) = Some (wave design stimulus (unknown_given settings) (probes_given settings))
 wave_of words = None
 
+-- what words of the form of `grade` spell
 abbrev pub grade_of : List (List ℕ) → Option Spelled
 grade_of (verb ∷ design ∷ stimulus ∷ settings) = Some (grade design stimulus (workers_given settings) (unknown_given settings))
 grade_of words = None
 
+-- what words of the form of `nets` spell
 abbrev pub nets_of : List (List ℕ) → Option Spelled
 nets_of (verb ∷ design ∷ settings) = Some (nets design (probes_given settings))
 nets_of words = None
 
+-- what words of the form of `check` spell
 abbrev pub check_of : List (List ℕ) → Option Spelled
 check_of (verb ∷ design ∷ board ∷ its_plan ∷ settings) = Some (check design board its_plan (probes_given settings))
 check_of words = None
 
+-- what words of the form of `plan` spell
 abbrev pub plan_of : List (List ℕ) → Option Spelled
 plan_of (verb ∷ design ∷ board ∷ settings) = Some (plan design board (name_given chips_setting settings) (probes_given settings))
 plan_of words = None
 
+-- what words of the form of `run` spell
 abbrev pub run_of : List (List ℕ) → Option Spelled
 run_of (verb ∷ design ∷ board ∷ stimulus ∷ settings) =
     Some (run design board stimulus (name_given plan_setting settings) (workers_given settings) (unknown_given settings) (probes_given settings))
 run_of words = None
 
+-- what words of the form of `save` spell
 abbrev pub save_of : List (List ℕ) → Option Spelled
 save_of (verb ∷ design ∷ board ∷ stimulus ∷ settings) =
     Some (save design board stimulus (name_given plan_setting settings) (workers_given settings) (unknown_given settings))
@@ -103,10 +112,12 @@ resume_of (verb ∷ design ∷ board ∷ state ∷ stimulus ∷ settings) =
     Some (resume design board state stimulus (name_given plan_setting settings) (workers_given settings))
 resume_of words = None
 
+-- what words of the form of `emit` spell
 abbrev pub emit_of : List (List ℕ) → Option Spelled
 emit_of (verb ∷ design ∷ board ∷ settings) = Some (emit design board (name_given plan_setting settings))
 emit_of words = None
 
+-- what words of the form of `demo` spell
 abbrev pub demo_of : List (List ℕ) → Option Spelled
 demo_of (verb ∷ cells ∷ settings) = Some (demo (cells_given cells) (workers_given settings))
 demo_of words = None
@@ -134,12 +145,15 @@ pub record CommandForm : Type 0 where
   pub verb : Verb
   pub form : Form
 
+-- the form of a command: its word, its places, and its settings
 abbrev pub form_with : List ℕ → List Place → List Setting → Form
 form_with word places settings = record { places = keyword word ∷ places; settings = settings }
 
+-- the place of a file: any name
 abbrev pub file : Place
 file = any name
 
+-- the commands, each with its form
 abbrev pub commands : List CommandForm
 commands =
     record { verb = verbs.Sim; form = form_with (codes "sim") (file ∷ file ∷ []) (unknown_setting ∷ probe_setting ∷ []) }
@@ -175,20 +189,12 @@ spelled_by words =
 
 -- whether a command needs a runtime: what runs a board with several workers does, and each grading, saving and resumption
 abbrev pub needs_runtime : Spelled → Bool
-needs_runtime (sim design stimulus unknown probes) = false
-needs_runtime (wave design stimulus unknown probes) = false
-needs_runtime (grade design stimulus workers unknown) = true
-needs_runtime (nets design probes) = false
-needs_runtime (check design board its_plan probes) = false
-needs_runtime (plan design board chips probes) = false
 needs_runtime (run design board stimulus given workers unknown probes) = ltb 1 workers
 needs_runtime (demo cells workers) = ltb 1 workers
+needs_runtime (grade design stimulus workers unknown) = true
 needs_runtime (save design board stimulus given workers unknown) = true
 needs_runtime (resume design board state stimulus given workers) = true
-needs_runtime (emit design board given) = false
-needs_runtime help = false
-needs_runtime version = false
-needs_runtime (nothing place) = false
+needs_runtime _ = false
 
 -- whether a command runs a board with several workers, whose words go over links
 abbrev pub uses_links : Spelled → Bool
@@ -196,13 +202,4 @@ uses_links (run design board stimulus given workers unknown probes) = ltb 1 work
 uses_links (demo cells workers) = ltb 1 workers
 uses_links (save design board stimulus given workers unknown) = ltb 1 workers
 uses_links (resume design board state stimulus given workers) = ltb 1 workers
-uses_links (sim design stimulus unknown probes) = false
-uses_links (wave design stimulus unknown probes) = false
-uses_links (grade design stimulus workers unknown) = false
-uses_links (nets design probes) = false
-uses_links (check design board its_plan probes) = false
-uses_links (plan design board chips probes) = false
-uses_links (emit design board given) = false
-uses_links help = false
-uses_links version = false
-uses_links (nothing place) = false
+uses_links _ = false

@@ -137,15 +137,7 @@ impl<'a> Command<'a> {
         match self {
             Command::Run { workers, .. } | Command::Demo { workers, .. } => *workers > 1,
             Command::Grade { .. } | Command::Save { .. } | Command::Resume { .. } => true,
-            Command::Sim { .. }
-            | Command::Wave { .. }
-            | Command::Nets { .. }
-            | Command::Check { .. }
-            | Command::Plan { .. }
-            | Command::Emit { .. }
-            | Command::Help
-            | Command::Version
-            | Command::Nothing(_) => false,
+            _ => false,
         }
     }
 }

@@ -1,4 +1,5 @@
-//! Nodes in groups on threads: the board at work, with its words on links that a fabric lays.
+//! Nodes in groups on threads: the board at work, with its words on links that a fabric lays. In the field: workers that
+//! fork and join, with the work dealt out beforehand.
 #![tactic(auto)]
 
 mod crew;

@@ -18,10 +18,12 @@ port_of (Some (at_cell path item)) = None
 abbrev pub control_ports : Design → List Word
 control_ports design = filter_map (λ net. port_of (driver design net.path net.name)) (controls design)
 
+-- the inputs of a model; none where there is no model
 abbrev pub inputs_of : Option Model → List Word
 inputs_of None = []
 inputs_of (Some model) = model.inputs
 
+-- the clocks of a model; none where there is no model
 abbrev pub clocks_of : Option Model → List Word
 clocks_of None = []
 clocks_of (Some model) = model.clocks

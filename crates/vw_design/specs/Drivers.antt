@@ -40,6 +40,7 @@ turn_by design path name (Some (bound place formal)) = goes_on (place ∷ path) 
 turn_by design [] name (Some port) = ends (Some (at_port name))
 turn_by design (place ∷ path) name (Some port) = turn_up path (actual_of design place path name)
 
+-- the next turn of the search for a driver, from a name at an instance
 abbrev pub turn : Design → Path → Word → Turn
 turn design path name = turn_by design path name (first_claim design (model_at design path) name)
 

@@ -11,14 +11,15 @@ use Rattle.vw_design.specs.Clocks.{inputs_of, clocks_of}
 use Rattle.vw_net.specs.declared.limits.TheConstants.{MOST_INPUTS, MOST_CELLS, MOST_DESIGN_OUTPUTS}
 use Rattle.vw_design.specs.declared.limits.TheConstants.{MOST_INSTANCES, MOST_BINDINGS, MOST_DEPTH}
 
--- the inputs of the root that it doesn't declare as clocks, and its outputs
+-- the number of inputs of the root that it doesn't declare as clocks
 abbrev pub input_count : Design → ℕ
 input_count design = length (filter (λ name. not (has_name (clocks_of (model_at design [])) name)) (inputs_of (model_at design [])))
 
+-- the number of outputs of the root
 abbrev pub output_count : Design → ℕ
 output_count design = length (model_outputs (model_at design []))
 
--- the instances, the root counted
+-- the number of instances, the root counted
 abbrev pub instance_count : Design → ℕ
 instance_count design = length (instances design)
 
@@ -27,23 +28,25 @@ abbrev pub weight_of : (Item → ℕ) → List Site → ℕ
 weight_of weight [] = zero
 weight_of weight (site ∷ list) = weight site.item + weight_of weight list
 
--- the bindings of `.subckt` items, over all instances
+-- the number of bindings of an item
 abbrev pub binding_weight : Item → ℕ
 binding_weight (Names line ins out cover) = 0
 binding_weight (Latch line d q edge control init) = 0
 binding_weight (Sub line model binds) = length binds
 
+-- the number of bindings of all placed models, over all instances
 abbrev pub binding_count : Design → ℕ
 binding_count design = weight_of binding_weight (sites design)
 
--- the gates and latches, over all instances
+-- the number of gates and latches, over all instances
 abbrev pub cell_count : Design → ℕ
 cell_count design = length (cells design)
 
--- the depth of an instance, the root being 1, and the greatest depth
+-- the depth of an instance, the root being 1
 abbrev pub depth_at : Path → ℕ
 depth_at path = length path + 1
 
+-- how deep the deepest instance lies
 abbrev pub greatest_depth : Design → ℕ
 greatest_depth design = greatest (map depth_at (instances design))
 

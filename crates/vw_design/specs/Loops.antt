@@ -32,6 +32,7 @@ reads_from design path gate (Some (Names line ins out cover)) = list_any (λ nam
 reads_from design path gate (Some (Latch line d q edge control init)) = false
 reads_from design path gate (Some (Sub line model binds)) = false
 
+-- whether a gate reads the output of another
 abbrev pub gate_reads : Design → Gate → Gate → Bool
 gate_reads design gate other = reads_from design gate.path other (item_at design gate.path gate.number)
 

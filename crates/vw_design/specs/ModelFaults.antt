@@ -24,6 +24,7 @@ has_model_name name (Some model) = bytes_eq model.name name
 abbrev pub is_reached : Design → Word → Bool
 is_reached design name = list_any (λ path. has_model_name name (model_at design path)) (instances design)
 
+-- the models that are reached from the root, in the order of the file
 unfoldable pub reached : Design → List Model
 reached design = filter (λ model. is_reached design model.name) design.models
 
@@ -38,6 +39,7 @@ by_placing search (Names line ins out cover) = None
 by_placing search (Latch line d q edge control init) = None
 by_placing search (Sub line model binds) = search line model binds
 
+-- what a search finds first among the placings of the models that are reached, in the order of the file
 abbrev pub first_placing : {A : Type 0} → Design → (ℕ → Word → List Bind → Option A) → Option A
 first_placing design search = first_found (λ model. first_found (by_placing search) model.items) (reached design)
 
@@ -51,6 +53,7 @@ names_model name (Names line ins out cover) = false
 names_model name (Latch line d q edge control init) = false
 names_model name (Sub line model binds) = bytes_eq model name
 
+-- whether a model places one of this name
 abbrev pub model_places : Option Model → Word → Bool
 model_places None name = false
 model_places (Some model) name = list_any (names_model name) model.items
@@ -72,30 +75,34 @@ pub record IsModelCircle (design : Design) (names : List Word) : Type 0 where
 abbrev pub at_model : {A : Type 0} → Design → (Model → Option A) → Word → Option A
 at_model design search name = option_and_then search (model_named design.models name)
 
--- 15: a bound formal is no input, clock or output of the placed model
+-- whether a model has an input, clock or output of this name
 abbrev pub is_formal_of : Model → Word → Bool
 is_formal_of model name = is_port model name || has_name model.outputs name
 
+-- the first formal that the placed model doesn't have
 abbrev pub unknown_formal_in : Model → List Bind → Option Word
 unknown_formal_in model binds = option_map (λ bind. bind.formal) (find (λ bind. not (is_formal_of model bind.formal)) binds)
 
+-- 15: a bound formal is no input, clock or output of the placed model
 abbrev pub unknown_formal : Design → Option NameAt
 unknown_formal design = first_placing design (λ line name binds.
     option_map (λ formal. record { line = line; name = formal }) (at_model design (λ model. unknown_formal_in model binds) name))
 
--- 16: an input or clock of the placed model isn't bound; inputs are looked at first, then clocks
+-- the first input or clock of a model that some bindings don't bind
 abbrev pub unbound_input_in : Model → List Bind → Option Word
 unbound_input_in model binds = find (λ formal. not (has_name (map (λ bind. bind.formal) binds) formal)) (model.inputs ++ model.clocks)
 
+-- 16: an input or clock of the placed model isn't bound; inputs are looked at first, then clocks
 abbrev pub unbound_input : Design → Option NameAt
 unbound_input design = first_placing design (λ line name binds.
     option_map (λ formal. record { line = line; name = formal }) (at_model design (λ model. unbound_input_in model binds) name))
 
--- 17: the placed model has an output that is an input or clock of it, too; the model, and the first such output
+-- a name of a model that is at fault
 pub record NameOf : Type 0 where
   pub model : Word
   pub name : Word
 
+-- 17: the placed model has an output that is an input or clock of it, too; the model, and the first such output
 abbrev pub port_both_ways : Design → Option NameOf
 port_both_ways design = first_placing design (λ line name binds.
     option_map (λ output. record { model = name; name = output }) (at_model design (λ model. find (is_port model) model.outputs) name))

@@ -50,12 +50,13 @@ claimed_again design site =
 abbrev pub two_drivers : Design → Option Net
 two_drivers design = first_found (claimed_again design) (sites design)
 
--- 21: the driver of a control is a gate or a latch
+-- whether a driver is a gate or a latch
 abbrev pub is_cell_source : Option Source → Bool
 is_cell_source None = false
 is_cell_source (Some (at_port name)) = false
 is_cell_source (Some (at_cell path item)) = true
 
+-- 21: the driver of a control is a gate or a latch
 abbrev pub gated_clock : Design → Option Net
 gated_clock design = find (λ net. is_cell_source (driver design net.path net.name)) (controls design)
 
@@ -64,6 +65,7 @@ pub record Unlike (A : Type 0) : Type 0 where
   pub first : A
   pub other : A
 
+-- the first of a list, with the first behind it that isn't the same
 abbrev pub first_unlike : {A : Type 0} → (A → A → Bool) → List A → Option (Unlike A)
 first_unlike same [] = None
 first_unlike same (x ∷ xs) = option_map (λ other. record { first = x; other = other }) (find (λ other. not (same x other)) xs)
@@ -77,36 +79,35 @@ pub record Edged : Type 0 where
   pub net : Net
   pub edge : Edge
 
+-- the edge of a latch, with its net, where one is written
 abbrev pub written_edge : Path → Word → Edge → Option Edged
 written_edge path name Rise = Some (record { net = net_at path name; edge = Rise })
 written_edge path name Fall = Some (record { net = net_at path name; edge = Fall })
 written_edge path name Unsaid = None
 
+-- the edge that an item writes, with its net, where it is a latch that writes one
 abbrev pub edge_at : Path → Item → Option Edged
 edge_at path (Names line ins out cover) = None
 edge_at path (Latch line d q edge control init) = written_edge path q edge
 edge_at path (Sub line model binds) = None
 
+-- whether two edges are the same
 abbrev pub same_edge : Edge → Edge → Bool
 same_edge Rise Rise = true
-same_edge Rise Fall = false
-same_edge Rise Unsaid = false
-same_edge Fall Rise = false
 same_edge Fall Fall = true
-same_edge Fall Unsaid = false
-same_edge Unsaid Rise = false
-same_edge Unsaid Fall = false
 same_edge Unsaid Unsaid = true
+same_edge one other = false
 
 -- 23: two latches write different types: the first that writes one, and the first that differs from it
 abbrev pub several_edges : Design → Option (Unlike Edged)
 several_edges design = first_unlike (λ one other. same_edge one.edge other.edge) (filter_map (λ site. edge_at site.path site.item) (latches design))
 
--- 24: a gate, the data input of a latch or an output of the root reads a clock port
+-- whether a driver is a clock port
 abbrev pub is_clock_source : Design → Option Source → Bool
 is_clock_source design None = false
 is_clock_source design (Some (at_port name)) = has_name (clock_ports design) name
 is_clock_source design (Some (at_cell path item)) = false
 
+-- 24: a gate, the data input of a latch or an output of the root reads a clock port
 abbrev pub clock_as_data : Design → Option Net
 clock_as_data design = find (λ net. is_clock_source design (driver design net.path net.name)) (data_reads design)

@@ -7,6 +7,7 @@ use Rattle.vw_design.specs.declared.design.Design.{Design}
 use Rattle.vw_design.specs.Paths.{Word, Path, Net, model_at, model_outputs}
 use Rattle.vw_design.specs.Preorder.{Site, sites}
 
+-- the net of a name at an instance
 abbrev pub net_at : Path → Word → Net
 net_at path name = record { path = path; name = name }
 
@@ -22,6 +23,7 @@ data_of (Names line ins out cover) = ins
 data_of (Latch line d q edge control init) = d ∷ []
 data_of (Sub line model binds) = []
 
+-- the control of an item, where it is a latch with one
 abbrev pub controls_of : Item → List Word
 controls_of (Names line ins out cover) = []
 controls_of (Latch line d q edge control init) = option_to_list control
@@ -39,8 +41,10 @@ root_outputs design = map (net_at []) (model_outputs (model_at design []))
 abbrev pub net_reads : Design → List Net
 net_reads design = flat_map (λ site. nets_at site (data_of site.item ++ controls_of site.item)) (sites design) ++ root_outputs design
 
+-- the nets that are read as data: by the items of all instances, and by the outputs of the root
 abbrev pub data_reads : Design → List Net
 data_reads design = flat_map (λ site. nets_at site (data_of site.item)) (sites design) ++ root_outputs design
 
+-- the nets that control latches, in the order of these
 abbrev pub controls : Design → List Net
 controls design = flat_map (λ site. nets_at site (controls_of site.item)) (sites design)

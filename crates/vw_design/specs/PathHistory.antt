@@ -40,14 +40,17 @@ abbrev pub path_outputs_from : Design → List Net → List Bool → List (List 
 path_outputs_from design watched state [] = []
 path_outputs_from design watched state (row ∷ rows) = path_outputs design watched row state ∷ path_outputs_from design watched (path_next design row state) rows
 
+-- the latch values in each clock, from these values on
 abbrev pub path_states_from : Design → List Bool → List (List Bool) → List (List Bool)
 path_states_from design state [] = []
 path_states_from design state (row ∷ rows) = state ∷ path_states_from design (path_next design row state) rows
 
+-- the latch values behind the last clock
 abbrev pub path_state_after : Design → List Bool → List (List Bool) → List Bool
 path_state_after design state [] = state
 path_state_after design state (row ∷ rows) = path_state_after design (path_next design row state) rows
 
+-- what a design does over rows from these latch values on, where nets are watched
 abbrev pub path_history_from : Design → List Net → List Bool → List (List Bool) → History
 path_history_from design watched state rows = record {
   outputs = path_outputs_from design watched state rows;

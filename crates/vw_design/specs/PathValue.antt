@@ -22,9 +22,11 @@ place_of_name names name = first_place (λ other. bytes_eq other name) names
 abbrev pub place_of_path : List Path → Path → Option ℕ
 place_of_path paths path = first_place (λ other. bytes_eq other path) paths
 
+-- whether a site is the one of this number at this instance
 abbrev pub is_site_of : Path → ℕ → Site → Bool
 is_site_of path number site = bytes_eq site.path path && site.number == number
 
+-- the place of a site among some, by its instance and number
 abbrev pub place_of_site : List Site → Path → ℕ → Option ℕ
 place_of_site list path number = first_place (is_site_of path number) list
 

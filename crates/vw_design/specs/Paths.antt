@@ -38,6 +38,7 @@ pub record Placing : Type 0 where
   pub model : Word
   pub binds : List Bind
 
+-- the placing that an item is, where it is one
 abbrev pub placing_of : Item → Option Placing
 placing_of (Names line ins out cover) = None
 placing_of (Latch line d q edge control init) = None
@@ -47,6 +48,7 @@ placing_of (Sub line model binds) = Some (record { model = model; binds = binds 
 abbrev pub placings : List Item → List Placing
 placings items = filter_map placing_of items
 
+-- the placing of a number among items, numbered from 1
 abbrev pub placing_at : List Item → ℕ → Option Placing
 placing_at items zero = None
 placing_at items (suc before) = slice_get (placings items) before
@@ -70,6 +72,7 @@ abbrev pub items_of : Option Model → List Item
 items_of None = []
 items_of (Some model) = model.items
 
+-- the outputs of a model; none where there is no model
 abbrev pub model_outputs : Option Model → List Word
 model_outputs None = []
 model_outputs (Some model) = model.outputs

@@ -14,6 +14,7 @@ pub record Site : Type 0 where
   pub before : ℕ
   pub item : Item
 
+-- an item of a model, at an instance of it
 abbrev pub site_at : Path → Numbered → Site
 site_at path entry = record { path = path; number = entry.number; before = entry.before; item = entry.item }
 
@@ -44,6 +45,7 @@ instances_at path before (Names line ins out cover) = []
 instances_at path before (Latch line d q edge control init) = []
 instances_at path before (Sub line model binds) = (suc before ∷ path) ∷ []
 
+-- the instances that the items at some sites make
 abbrev pub paths_of : List Site → List Path
 paths_of list = flat_map (λ site. instances_at site.path site.before site.item) list
 
@@ -57,13 +59,16 @@ is_cell (Names line ins out cover) = true
 is_cell (Latch line d q edge control init) = true
 is_cell (Sub line model binds) = false
 
+-- whether an item is a latch
 abbrev pub is_latch_item : Item → Bool
 is_latch_item (Names line ins out cover) = false
 is_latch_item (Latch line d q edge control init) = true
 is_latch_item (Sub line model binds) = false
 
+-- the cells of a design in preorder: its tables and latches
 abbrev pub cells : Design → List Site
 cells design = filter (λ site. is_cell site.item) (sites design)
 
+-- the latches of a design in preorder
 abbrev pub latches : Design → List Site
 latches design = filter (λ site. is_latch_item site.item) (sites design)

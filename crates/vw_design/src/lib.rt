@@ -1,4 +1,4 @@
-//! Designs of models with names, as a design text spells them.
+//! Designs of models with names, as a design text spells them. In the field: a hierarchical netlist.
 #![tactic(auto)]
 
 mod design;

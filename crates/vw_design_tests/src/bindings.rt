@@ -10,7 +10,7 @@ use vw_models::{
     FormalAt, OutputOf, Targets, both_ways, models_reached, targets_of, unbound_input,
     unknown_formal,
 };
-use vw_shown::{add_behind, add_number};
+use vw_samples::{add_behind, add_number};
 
 /// A formal with its line.
 fn formal_text(alloc: Global, kind: &[u8], found: &FormalAt) -> Result<Vec<u8>, AllocError> {

@@ -8,7 +8,7 @@ use vw_blif::read;
 use vw_design::{Bind, Design, Edge, Item, Model};
 use vw_net::{Cover, Init, Mark};
 use vw_outside::Name;
-use vw_shown::{add_behind, add_number, add_words};
+use vw_samples::{add_behind, add_number, add_words};
 
 /// Adds a row of a table, by its number.
 fn add_row(shown: &mut Vec<u8>, cover: &Cover, row: u64) -> Result<(), AllocError>

@@ -7,7 +7,7 @@ use vw_design::Design;
 use vw_drivers::{Claim, ModelClaims, Outputs, claims_of, output_sets};
 use vw_models::{Targets, targets_of};
 use vw_outside::Name;
-use vw_shown::{add_behind, add_number, add_numbers, name};
+use vw_samples::{add_behind, add_number, add_numbers, name};
 
 /// The names `a` and `b`.
 fn two_names(alloc: Global) -> Result<Vec<Name>, AllocError> {

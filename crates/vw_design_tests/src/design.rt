@@ -5,7 +5,7 @@ use std::test::Fail;
 use vw_design::{Bind, Edge, Item, Model};
 use vw_net::{Init, Sequence};
 use vw_outside::Name;
-use vw_shown::name;
+use vw_samples::name;
 
 /// A list of one name with these bytes.
 fn names(alloc: Global, bytes: &[u8]) -> Result<Sequence<Name>, AllocError> {

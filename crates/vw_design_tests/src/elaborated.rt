@@ -6,7 +6,7 @@ use vw_blif::read;
 use vw_elab::{Driver, Elaborated, elaborate};
 use vw_flat::flatten;
 use vw_net::{Cell, Flat};
-use vw_shown::{add_list, name};
+use vw_samples::{add_list, name};
 
 /// The elaborated design of a text that has no fault.
 fn elaborated(alloc: Global, text: &[u8]) -> Option<Elaborated> {

@@ -6,7 +6,7 @@ use vw_blif::read;
 use vw_design::Design;
 use vw_models::{ModelOrder, Targets, models_reached, order_of, targets_of, unknown_model};
 use vw_outside::Name;
-use vw_shown::{add_list, add_number, add_words};
+use vw_samples::{add_list, add_number, add_words};
 
 /// The line of an unknown model.
 fn unknown(alloc: Global, line: u64) -> Result<Vec<u8>, AllocError> {

@@ -6,7 +6,7 @@ use vw_blif::read;
 use vw_design::Design;
 use vw_drivers::{ModelClaims, ModelNames, PlacedNames, Way, names_of};
 use vw_models::{Targets, targets_of};
-use vw_shown::{add_numbers, add_option, add_options};
+use vw_samples::{add_numbers, add_option, add_options};
 
 /// A gate, a placed model and a latch whose control nothing drives; the placed model is a gate.
 const TEXT: &[u8] =

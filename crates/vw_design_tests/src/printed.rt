@@ -3,7 +3,7 @@ use std::alloc::{AllocError, Global};
 use std::process::Abort;
 use std::test::Fail;
 use vw_front::{NamedNetlist, named_netlist_of_text};
-use vw_shown::{add_numbers, add_words, name};
+use vw_samples::{add_numbers, add_words, name};
 
 /// Two stages that invert what they store, behind a gate. `ck` is a clock port, and no column.
 const STAGES: &[u8] = b".model top\n.inputs a ck b\n.outputs y q\n.names a b m\n11 1\n\

@@ -7,7 +7,7 @@ use vw_design::Design;
 use vw_instances::{Before, Measured, Sizes, sizes_of};
 use vw_models::{ModelOrder, Targets, models_reached, order_of, targets_of, unknown_model};
 use vw_net::Sequence;
-use vw_shown::add_number;
+use vw_samples::add_number;
 
 /// What counting a design gives, if its models are known and place each other in no circle.
 fn measured(alloc: Global, design: &Design) -> Result<Option<Measured>, AllocError> {

@@ -1,5 +1,5 @@
-//! What drives the nets of a design, by numbers: what first claims each name of a model, to which of these names the items
-//! read and bind, and so the driver of each net.
+//! What drives the nets of a design, by numbers: what first claims each name of a model, to which of these names the
+//! items read and bind, and so the driver of each net. In the field: the resolution of nets through the hierarchy.
 #![tactic(auto)]
 
 mod claim;

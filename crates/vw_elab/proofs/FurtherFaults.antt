@@ -9,8 +9,8 @@ use Rattle.vw_design.specs.NetFaults.{Unlike, Edged}
 use Rattle.vw_design.specs.Limits.{Counted, too_big}
 use Rattle.vw_design.specs.Accepted.{Fault, formal_unknown, input_unbound, output_both_ways, over_limit, net_undriven, driven_twice, clock_gated, clocks_differ, edges_differ, clock_read, HasNoModelFault, fault_of_models, fault_of_nets, IsFurtherFault}
 use Rattle.vw_design.proofs.Sizes.{small_fits}
-use Rattle.vw_nets.specs.declared.nets.Pair.{Pair}
-use Rattle.vw_nets.specs.Nets.{printed_net, ports_pair, latches_pair}
+use Rattle.vw_net_faults.specs.declared.nets.Pair.{Pair}
+use Rattle.vw_net_faults.specs.Nets.{printed_net, ports_pair, latches_pair}
 use Rattle.vw_elab.specs.Steps.FaultSearch.{HasKnownModels}
 
 -- nothing is found where nothing is told

@@ -13,8 +13,8 @@ use Rattle.vw_drivers.specs.Firsts.{First, number_named}
 use Rattle.vw_drivers.specs.declared.source.Source.{Source}
 use Rattle.vw_drivers.specs.declared.source.Source.TheVariants as sources
 use Rattle.vw_drivers.specs.Sources.{source_of}
-use Rattle.vw_nets.specs.declared.columns.Columns.{Columns}
-use Rattle.vw_nets.specs.Columns.{AreColumns}
+use Rattle.vw_net_faults.specs.declared.columns.Columns.{Columns}
+use Rattle.vw_net_faults.specs.Columns.{AreColumns}
 use Rattle.vw_elab.specs.declared.driver.Driver.TheVariants.{Cell}
 use Rattle.vw_elab.specs.Numbers.{of_port, driver_of}
 use Rattle.vw_elab.specs.Steps.ByColumns.{driver_by}

@@ -22,8 +22,8 @@ use Rattle.vw_drivers.specs.declared.source.Source.{Source}
 use Rattle.vw_drivers.specs.declared.tables.Tables.{Tables}
 use Rattle.vw_drivers.specs.Tables.{root_firsts, instance_firsts}
 use Rattle.vw_drivers.specs.Drivers.{IsSource}
-use Rattle.vw_nets.specs.declared.columns.Columns.{Columns}
-use Rattle.vw_nets.specs.Columns.{AreColumns}
+use Rattle.vw_net_faults.specs.declared.columns.Columns.{Columns}
+use Rattle.vw_net_faults.specs.Columns.{AreColumns}
 use Rattle.vw_elab.specs.declared.elaborated.Instance.{Instance}
 use Rattle.vw_elab.specs.declared.elaborated.Reading.{Reading}
 use Rattle.vw_elab.specs.declared.parts.NumberedParts.{NumberedParts}

@@ -23,7 +23,7 @@ use std::marker::Model;
 use vw_design::Design;
 use vw_drivers::{Source, Tables};
 use vw_instances::CellSite;
-use vw_nets::{Columns, print_net};
+use vw_net_faults::{Columns, print_net};
 use vw_outside::Name;
 
 /// An instance by numbers.

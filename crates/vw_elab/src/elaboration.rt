@@ -2,7 +2,7 @@
 ghost use Rattle.std.specs.Prelude.{◌≡◌, IfOk, IfErr};
 ghost use Rattle.vw_design.specs.Accepted.{HasNoModelFault, IsAccepted};
 ghost use Rattle.vw_drivers.specs.Tables.{root_firsts};
-ghost use Rattle.vw_nets.specs.Columns.{AreColumns};
+ghost use Rattle.vw_net_faults.specs.Columns.{AreColumns};
 ghost use Rattle.vw_elab.specs.Refusals.{IsRefusal};
 ghost use Rattle.vw_elab.specs.Steps.DesignParts.{AreDesignParts, IsElaborated};
 
@@ -14,7 +14,7 @@ use crate::parts::NumberedParts;
 use std::alloc::Global;
 use vw_design::Design;
 use vw_models::Targets;
-use vw_nets::Columns;
+use vw_net_faults::Columns;
 
 /// The instances, claims and drivers of a design, if its models have no fault.
 fn parts_of(alloc: Global, design: &Design) -> Result<NumberedParts, DesignFault>

@@ -1,4 +1,5 @@
-//! Elaborated designs: designs without a fault, with their instances, cells, drivers and columns by numbers.
+//! Elaborated designs: designs without a fault, with their instances, cells, drivers and columns by numbers. In the
+//! field: elaboration.
 #![tactic(auto)]
 
 mod driver;

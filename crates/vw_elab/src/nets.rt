@@ -1,11 +1,11 @@
 //! Faults of nets.
 ghost use Rattle.vw_design.specs.Accepted.{HasNoModelFault, IsAccepted};
-ghost use Rattle.vw_nets.specs.Nets.{AreNets};
+ghost use Rattle.vw_net_faults.specs.Nets.{AreNets};
 ghost use Rattle.vw_elab.specs.Steps.FaultSearch.{IsMadeOrRefused, HasDrivers};
 
 use crate::fault::DesignFault;
 use std::alloc::Global;
-use vw_nets::Nets;
+use vw_net_faults::Nets;
 
 /// Looks for nets without a driver, or with two.
 fn check_drivers(alloc: Global, nets: &Nets) -> Result<(), DesignFault>

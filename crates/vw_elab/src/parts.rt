@@ -1,7 +1,7 @@
 //! The tables of a design by numbers.
 ghost use Rattle.std.specs.Prelude.{◌≡◌, IfOk};
 ghost use Rattle.vw_design.specs.Accepted.{HasNoModelFault};
-ghost use Rattle.vw_nets.specs.Nets.{AreNets};
+ghost use Rattle.vw_net_faults.specs.Nets.{AreNets};
 ghost use Rattle.vw_instances.specs.Sizes.{AreSizes};
 ghost use Rattle.vw_elab.specs.Steps.DesignParts.{AreDesignParts};
 
@@ -11,7 +11,7 @@ use vw_drivers::{Drivers, Tables};
 use vw_instances::{CellSite, Sizes, list_instances};
 use vw_models::Targets;
 use vw_net::Sequence;
-use vw_nets::Nets;
+use vw_net_faults::Nets;
 
 /// The instances, the cells and the drivers of a design by numbers.
 pub struct NumberedParts {

@@ -7,7 +7,7 @@ use Rattle.vw_design.specs.PathHistory.{path_history}
 use Rattle.vw_design.specs.declared.design.Design.{Design}
 use Rattle.vw_front.specs.Designs.{IsDesignOf}
 use Rattle.vw_plan.specs.PlannedBoard.{PlannedBoard}
-use Rattle.vw_boardnames.specs.Shows.{ActsAs}
+use Rattle.vw_emit_names.specs.Shows.{ActsAs}
 
 -- the text spells a design that runs, with a column for each input of the planned netlist. Over held rows it shows at the last
 -- microclock of each clock the outputs and then the latch values of the netlist, for all rows and both values of what starts

@@ -1,12 +1,12 @@
 //! A planned board as a design.
 ghost use Rattle.std.specs.Prelude.{◌≡◌, IfOk, IfErr};
 ghost use Rattle.vw_plan.specs.PlannedBoard.{planned_board};
-ghost use Rattle.vw_boardtext.specs.Emitted.{FitsDesigns, IsEmitFault, emitted_text};
+ghost use Rattle.vw_emit_text.specs.Emitted.{FitsDesigns, IsEmitFault, emitted_text};
 ghost use Rattle.vw_emit.specs.EmittedBoard.{IsEmittedBoard};
 
 use crate::laws::emitted_texts_spell_designs;
 use std::alloc::Global;
-use vw_boardtext::EmitFault;
+use vw_emit_text::EmitFault;
 use vw_plan::Checked;
 
 /// The planned board as the text of a design in BLIF: a model of the board, which places a model of each node, the host
@@ -24,5 +24,5 @@ pub fn emit(alloc: Global, checked: &Checked) -> Result<Vec<u8>, EmitFault>
         (planned_board checked.now.ordered checked.now.board checked.now.plan)) }
 {
     emitted_texts_spell_designs();
-    vw_boardtext::emit(alloc, checked)
+    vw_emit_text::emit(alloc, checked)
 }

@@ -5,11 +5,11 @@ ghost use Rattle.vw_design.specs.declared.design.Design.{Design};
 ghost use Rattle.vw_front.specs.Designs.{IsNoDesign, Runs, SpellsDesign};
 ghost use Rattle.vw_plan.specs.PlannedBoard.{PlannedBoard};
 ghost use Rattle.vw_plan.specs.Sound.{IsSound};
-ghost use Rattle.vw_boardtext.specs.Emitted.{FitsDesigns, emitted_text};
+ghost use Rattle.vw_emit_text.specs.Emitted.{FitsDesigns, emitted_text};
 ghost use Rattle.vw_emit.specs.EmittedBoard.{IsBoardOfDesign, IsEmittedBoard};
 
-use vw_bridge::{emitted_texts_act_as_their_designs, emitted_texts_spell_boards};
 use vw_design::histories_agree;
+use vw_emit_printed::{emitted_texts_act_as_their_designs, emitted_texts_spell_boards};
 
 /// The text of the emitted board of a sound plan, within the limits of designs, spells a design that runs and does what
 /// was planned. So it isn't refused, and each design that it spells is that one.

@@ -1,6 +1,7 @@
 -- What a caller knows of a simulation by its status. No net is watched.
-use Rattle.std.specs.Prelude.{◌≡◌, ◌≢◌, ◌<◌, ℕ, Bool, false, List, [], length, Ok, Err}
+use Rattle.std.specs.Prelude.{◌≡◌, ℕ, Bool, false, List, [], ◌∷◌, length, Ok, Err}
 use Rattle.vw_design.specs.Clocks.{columns}
+use Rattle.vw_course.specs.Places.{IsOneOf}
 use Rattle.vw_outside.specs.Fronts.{IsFront}
 use Rattle.vw_rows.specs.declared.fault.StimFault.{StimFault}
 use Rattle.vw_rows.specs.Stimulus.{stimulus_rows}
@@ -43,8 +44,7 @@ pub record SimulateStatuses (design stimulus out err : List ℕ) (status : ℕ) 
   pub done : status ≡ 0 → IsSimulated design stimulus out err
   pub no_design : status ≡ 1 → HasBadDesign design out err
   pub no_rows : status ≡ 5 → HasBadRows design stimulus out err
-  pub others : (status ≢ 2) × (status ≢ 3) × (status ≢ 4) × (status ≢ 6)
-  pub known : status < 10
+  pub comes : IsOneOf (0 ∷ 7 ∷ 8 ∷ 9 ∷ 1 ∷ 5 ∷ []) status
   pub part : (spelled : WatchedDesign) (rows : List (List Bool)) → IsWatchedDesignOf [] design spelled
       → stimulus_rows (length (columns spelled.design)) stimulus ≡ Ok rows
       → IsFront out (trace_of false spelled rows)

@@ -1,4 +1,5 @@
 //! The flat netlist of an elaborated design in which probes watch nets, and the nets of its cells as they are printed.
+//! In the field: flattening.
 #![tactic(auto)]
 
 mod cell;

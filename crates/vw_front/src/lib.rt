@@ -1,5 +1,5 @@
-//! From the text of a design to its netlist with an order of the gates, with the names of its nets or without them, or the
-//! reason why there is none.
+//! From the text of a design to its netlist with an order of the gates, with the names of its nets or without them, or
+//! the reason why there is none. In the field: the front end of a compiler.
 #![tactic(auto)]
 
 mod fault;

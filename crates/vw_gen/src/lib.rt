@@ -1,5 +1,5 @@
-//! Designs, boards and stimuli that are generated from a number of cells, to try out and to measure what reads them; and the
-//! line that sums up a trace.
+//! Designs, boards and stimuli that are generated from a number of cells, to try out and to measure what reads them; and
+//! the line that sums up a trace. In the field: synthetic benchmarks.
 #![tactic(auto)]
 
 mod boards;

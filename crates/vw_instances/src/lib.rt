@@ -1,5 +1,5 @@
-//! The instances and the cells of a design: how many there are, counted before any expansion, and its limits; and each of
-//! them by its number, in preorder.
+//! The instances and the cells of a design: how many there are, counted before any expansion, and its limits; and each
+//! of them by its number, in preorder. In the field: the instance tree of a hierarchical design.
 #![tactic(auto)]
 
 mod amounts;

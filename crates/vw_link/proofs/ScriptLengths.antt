@@ -16,9 +16,9 @@ use Rattle.vw_plan.specs.Sound.{IsRouted, IsSound, has_pin}
 use Rattle.vw_plan.specs.Links.{HaveSameEnds}
 use Rattle.vw_plan.proofs.LinkDelays.{one_number}
 use Rattle.vw_net.proofs.CountsOverLists.{count_append, count_cons, count_sorted}
-use Rattle.vw_leads.specs.Links.{joins, link_number}
-use Rattle.vw_leads.proofs.FirstPlaces.{LeadsTo}
-use Rattle.vw_leads.proofs.LinkPlaces.{link_leads}
+use Rattle.vw_ready.specs.Links.{joins, link_number}
+use Rattle.vw_ready.proofs.FirstPlaces.{LeadsTo}
+use Rattle.vw_ready.proofs.LinkPlaces.{link_leads}
 use Rattle.vw_prog.specs.declared.entry.Entry.{Entry}
 use Rattle.vw_prog.specs.declared.job.Job.{Job}
 use Rattle.vw_prog.specs.Scripts.{planned_of, script, script_before, word_at}

@@ -1,5 +1,5 @@
 //! The models of a design by their numbers: which place which, which are reached, and an order of them or a circle. And
-//! faults of the bindings of placed models.
+//! faults of the bindings of placed models. In the field: the checks of a module hierarchy.
 #![tactic(auto)]
 
 mod both;

@@ -1,4 +1,5 @@
-//! A flat netlist: gates and latches with numbers in place of names, and what it means.
+//! A flat netlist: gates and latches with numbers in place of names, and what it means. In the field: a netlist of
+//! single-output tables and flip-flops, as a technology mapper leaves it.
 #![tactic(auto)]
 
 mod cell;

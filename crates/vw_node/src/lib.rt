@@ -1,4 +1,5 @@
-//! The nodes of a board, each of which makes its actions one after the other.
+//! The nodes of a board, each of which makes its actions one after the other. In the field: a processor with a static
+//! schedule, one instruction for each action.
 #![tactic(auto)]
 
 mod bits;

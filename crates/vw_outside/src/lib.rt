@@ -1,4 +1,5 @@
-//! What lies outside the program: texts that are read by their names, and places that bytes are written to.
+//! What lies outside the program: texts that are read by their names, and places that bytes are written to. In the
+//! field: ports and adapters (Cockburn 2005).
 #![tactic(auto)]
 
 mod burst_gate;

@@ -9,7 +9,7 @@ use crate::cell_nets::CellNets;
 use crate::deal::Deal;
 use crate::fault::PartFault;
 use std::alloc::{AllocError, Global};
-use vw_hint::hint;
+use vw_multilevel::hint;
 use vw_net::{Flat, Ordered, Sequence};
 use vw_plan::Board;
 

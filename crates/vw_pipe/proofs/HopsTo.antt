@@ -8,10 +8,10 @@ use Rattle.vw_plan.specs.declared.board.Board.{Board}
 use Rattle.vw_plan.specs.declared.need.Route.{Route}
 use Rattle.vw_plan.specs.declared.wire.Hop.{Hop}
 use Rattle.vw_net.specs.FirstFound.{found_if}
-use Rattle.vw_leads.specs.Pairs.{first_pair, is_number_pair, pair_in, HasPairs}
+use Rattle.vw_ready.specs.Pairs.{first_pair, is_number_pair, pair_in, HasPairs}
 use Rattle.vw_net.proofs.Orders.{eqb_comm}
 use Rattle.vw_plan.specs.Lead.{after_last}
-use Rattle.vw_leads.specs.Leads.{arrival_by}
+use Rattle.vw_ready.specs.Leads.{arrival_by}
 use Rattle.vw_pipe.specs.Steps.Leads.{arrived_by, route_hops_to, route_pairs}
 
 module _ (node net : ℕ) where

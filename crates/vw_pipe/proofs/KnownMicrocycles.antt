@@ -7,8 +7,8 @@ use Rattle.vw_net.specs.declared.ordered.Ordered.{Ordered}
 use Rattle.vw_plan.specs.declared.board.Board.{Board}
 use Rattle.vw_plan.specs.declared.need.Route.{Route}
 use Rattle.vw_plan.specs.Lead.{after_last, arrival}
-use Rattle.vw_leads.specs.Leads.{arrival_by}
-use Rattle.vw_leads.specs.Pairs.{HasPairs}
+use Rattle.vw_ready.specs.Leads.{arrival_by}
+use Rattle.vw_ready.specs.Pairs.{HasPairs}
 use Rattle.vw_pipe.specs.declared.draft.Draft.{Draft}
 use Rattle.vw_pipe.specs.Steps.Drafts.{IsFitDraft, microcycle_limit}
 use Rattle.vw_pipe.specs.Steps.Leads.{arrived_by, route_pairs}

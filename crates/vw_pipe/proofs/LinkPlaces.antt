@@ -5,9 +5,9 @@ use Rattle.std.proofs.lemmas.Bool.{cases_Bool}
 use Rattle.vw_net.proofs.Orders.{eqb_comm}
 use Rattle.vw_plan.specs.declared.link.Link.{Link}
 use Rattle.vw_plan.specs.Walks.{has_link}
-use Rattle.vw_leads.specs.Links.{link_number, link_pairs}
+use Rattle.vw_ready.specs.Links.{link_number, link_pairs}
 use Rattle.vw_net.specs.FirstFound.{found_if}
-use Rattle.vw_leads.specs.Pairs.{first_pair, is_number_pair}
+use Rattle.vw_ready.specs.Pairs.{first_pair, is_number_pair}
 use Rattle.vw_pipe.specs.Steps.SentHops.{link_place}
 
 number_from : (links : List Link) (number from to : ℕ) → has_link links from to ≡ true → first_pair number (link_pairs links) from to ≡ Some (number + link_place links from to)

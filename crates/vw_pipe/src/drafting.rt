@@ -11,9 +11,9 @@ use crate::given::Given;
 use crate::task::{Task, tasks_in_order};
 use crate::turns::turns_of;
 use std::alloc::{AllocError, Global};
-use vw_leads::LeadTable;
 use vw_net::Sequence;
 use vw_plan::node_of;
+use vw_ready::LeadTable;
 use vw_slots::SlotTable;
 
 /// The lead of the net of a cell on the cell's chip, from the leads and hops so far: 0 for a latch.

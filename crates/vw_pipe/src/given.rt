@@ -1,11 +1,11 @@
 //! What a schedule is made from.
 ghost use Rattle.std.specs.Prelude.{◌≡◌, length};
-ghost use Rattle.vw_leads.specs.Pairs.{HasPairs};
+ghost use Rattle.vw_ready.specs.Pairs.{HasPairs};
 ghost use Rattle.vw_pipe.specs.Steps.Leads.{route_pairs};
 
-use vw_leads::{LinkTable, PairTable};
 use vw_net::Ordered;
 use vw_plan::{Board, Route};
+use vw_ready::{LinkTable, PairTable};
 
 /// What stays the same while one schedule is made: the netlist with the chips of its cells and the routes of its nets, the
 /// board, and two tables made of these.

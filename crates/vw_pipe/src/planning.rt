@@ -5,7 +5,7 @@ ghost use Rattle.vw_plan.specs.declared.plan.Plan.{Plan};
 ghost use Rattle.vw_plan.specs.Chips.{IsChip, cells_on};
 ghost use Rattle.vw_plan.specs.HopCounts.{hop_count};
 ghost use Rattle.vw_plan.specs.Routes.{AreRoutes};
-ghost use Rattle.vw_leads.specs.Pairs.{HasPairs};
+ghost use Rattle.vw_ready.specs.Pairs.{HasPairs};
 ghost use Rattle.vw_pipe.specs.Schedules.{IsSchedule};
 ghost use Rattle.vw_pipe.specs.Steps.FinishedSchedules.{latest};
 ghost use Rattle.vw_pipe.specs.Steps.Given.{IsFitFor, cell_microcycle_for, net_count};
@@ -17,9 +17,9 @@ use crate::drafting::{drafted, usable_at};
 use crate::given::Given;
 use crate::refused::ScheduleRefused;
 use std::alloc::{AllocError, Global};
-use vw_leads::{LinkTable, PairTable};
 use vw_net::{Cell, Ordered, Sequence};
 use vw_plan::{Board, Hop, Plan, Route, Wire, leads_follow_drivers, needed_pairs_are_needed};
+use vw_ready::{LinkTable, PairTable};
 
 /// The place of each route.
 fn route_table(alloc: Global, routes: &[Route]) -> Result<PairTable, AllocError>

@@ -2,9 +2,9 @@
 //! latch or an output. It only says which net is sent first; no contract rests on it.
 use crate::given::Given;
 use std::alloc::{AllocError, Global};
-use vw_leads::LinkTable;
 use vw_net::Cell;
 use vw_plan::Route;
+use vw_ready::LinkTable;
 
 /// How long a bit is under way along a route, if it never waits.
 fn time_along(links: &LinkTable, route: &Route) -> u64 {

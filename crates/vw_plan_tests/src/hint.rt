@@ -3,7 +3,7 @@ use crate::same::are_either;
 use std::alloc::{AllocError, Global};
 use std::process::Abort;
 use std::test::Fail;
-use vw_hint::hint;
+use vw_multilevel::hint;
 use vw_net::Sequence;
 
 /// Two chips with room for two cells on each.

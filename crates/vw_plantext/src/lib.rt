@@ -1,4 +1,4 @@
-//! Writes plans as texts, and reads them: each plan has one spelling.
+//! Writes plans as texts, and reads them: each plan has one spelling. In the field: a canonical form.
 #![tactic(auto)]
 
 mod body;

@@ -12,9 +12,9 @@ use Rattle.vw_plan.specs.declared.wire.Hop.{Hop}
 use Rattle.vw_plan.specs.declared.wire.Wire.{Wire}
 use Rattle.vw_plan.specs.PlannedBoard.{PlannedBoard}
 use Rattle.vw_plan.specs.Sound.{IsRouted, IsSound, has_pin}
-use Rattle.vw_leads.specs.Links.{joins, link_number}
-use Rattle.vw_leads.proofs.FirstPlaces.{LeadsTo}
-use Rattle.vw_leads.proofs.LinkPlaces.{link_leads}
+use Rattle.vw_ready.specs.Links.{joins, link_number}
+use Rattle.vw_ready.proofs.FirstPlaces.{LeadsTo}
+use Rattle.vw_ready.proofs.LinkPlaces.{link_leads}
 use Rattle.vw_prog.specs.declared.entry.Entry.{Entry}
 use Rattle.vw_prog.specs.Timetable.{comes_before, entries, entries_at, gate_entries, gate_entry, hop_entries, is_at, is_evaluating, is_sending, is_taking, link_of_hop, sent_entry, taken_entry, timetable, wire_entries}
 use Rattle.vw_prog.proofs.LinkPasses.{found_link, place_carries, turn_of}

@@ -4,7 +4,7 @@ use Rattle.std.specs.Prelude.{unwrap_or}
 use Rattle.vw_plan.specs.declared.board.Board.{Board}
 use Rattle.vw_plan.specs.declared.wire.Hop.{Hop}
 use Rattle.vw_plan.proofs.HopLinks.{HopLink}
-use Rattle.vw_leads.proofs.HopNumbers.{hop_number}
+use Rattle.vw_ready.proofs.HopNumbers.{hop_number}
 use Rattle.vw_prog.specs.Timetable.{link_of_hop}
 
 -- the timetable has it by that number

@@ -18,9 +18,9 @@ use Rattle.vw_plan.specs.Lead.{arrival, carries}
 use Rattle.vw_plan.specs.PlannedBoard.{PlannedBoard}
 use Rattle.vw_plan.specs.Sound.{IsRouted, IsSound, has_pin}
 use Rattle.vw_plan.proofs.LinkDelays.{arrives}
-use Rattle.vw_leads.specs.Links.{joins, link_number}
-use Rattle.vw_leads.proofs.FirstPlaces.{LeadsTo}
-use Rattle.vw_leads.proofs.LinkPlaces.{link_leads}
+use Rattle.vw_ready.specs.Links.{joins, link_number}
+use Rattle.vw_ready.proofs.FirstPlaces.{LeadsTo}
+use Rattle.vw_ready.proofs.LinkPlaces.{link_leads}
 use Rattle.vw_prog.specs.declared.entry.Entry.{Entry}
 use Rattle.vw_net.specs.Sorting.{sorted}
 use Rattle.vw_prog.specs.Timetable.{comes_before, entries, entries_at, gate_entries, gate_entry, hop_entries, is_at, is_sending, is_sent, is_taken, is_taking, link_of_hop, passes, sent_entry, taken_entry, taken_from, timetable, wire_entries}

@@ -9,7 +9,7 @@ use Rattle.vw_plan.specs.declared.wire.Hop.{Hop}
 use Rattle.vw_plan.specs.declared.wire.Wire.{Wire}
 use Rattle.vw_plan.specs.Lead.{arrival, lead}
 use Rattle.vw_plan.specs.PlannedBoard.{PlannedBoard, home}
-use Rattle.vw_leads.specs.Links.{link_number}
+use Rattle.vw_ready.specs.Links.{link_number}
 use Rattle.vw_prog.specs.declared.entry.Entry.{Entry}
 use Rattle.vw_net.specs.Sorting.{sorted}
 

@@ -3,15 +3,15 @@ ghost use Rattle.std.specs.Prelude.{◌≡◌, ◌≤◌, ◌<◌, ◌^◌, ◌+
 ghost use Rattle.std.specs.List.{All};
 ghost use Rattle.vw_plan.specs.PlannedBoard.{planned_board};
 ghost use Rattle.vw_plan.specs.Sound.{IsSound};
-ghost use Rattle.vw_leads.specs.LeadTables.{AreLeads, planned_in};
+ghost use Rattle.vw_ready.specs.LeadTables.{AreLeads, planned_in};
 ghost use Rattle.vw_prog.specs.Steps.{AreOwnEntries, gate_entry_of, lists_of};
 ghost use Rattle.vw_prog.specs.Timetable.{entries, gate_entries, hop_entries, link_of_hop, sent_entry, taken_entry, timetable, wire_entries};
 
 use crate::entry::Entry;
 use crate::laws::leads_end_in_time;
 use std::alloc::{AllocError, Global};
-use vw_leads::{LinkTable, Wired, arrivals_of, home_leads, wire_table};
 use vw_plan::{Checked, Hop, Wire, needed_nets_are_nets, node_of};
+use vw_ready::{LinkTable, Wired, arrivals_of, home_leads, wire_table};
 
 /// The entry of the gate at a place of the order, of which this is the lead.
 fn gate_entry(wired: &Wired, lead: u64, place: usize, number: u32) -> Entry

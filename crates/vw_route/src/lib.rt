@@ -1,4 +1,4 @@
-//! Shortest walks between the nodes of a board.
+//! Shortest walks between the nodes of a board. In the field: shortest-path routing.
 #![tactic(auto)]
 
 mod laws;

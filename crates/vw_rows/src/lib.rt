@@ -1,4 +1,4 @@
-//! The rows of a stimulus text, and the text of a trace.
+//! The rows of a stimulus text, and the text of a trace. In the field: test vectors, and the responses to them.
 #![tactic(auto)]
 
 mod batch;

@@ -1,4 +1,5 @@
-//! Plans of a design on a board, and runs of the board by such a plan.
+//! Plans of a design on a board, and runs of the board by such a plan. In the field: the compiler of a logic emulator,
+//! and the emulator.
 #![tactic(auto)]
 
 mod alone;

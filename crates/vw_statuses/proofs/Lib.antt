@@ -1,7 +1,7 @@
 pub mod CarriedWords
-pub mod CheckLaws
 pub mod ConstantLaws
 pub mod DemoLaws
+pub mod DesignLaws
 pub mod EmitLaws
 pub mod EmittedBoards
 pub mod FewRows
@@ -9,8 +9,6 @@ pub mod HeadlineLaw
 pub mod NetsLaws
 pub mod OnBoards
 pub mod PieceLaws
-pub mod PlanForLaws
-pub mod PlanLaws
 pub mod PlannedLaws
 pub mod PromisedTexts
 pub mod ResumeLaws

@@ -1,5 +1,5 @@
 -- What each command has written where it ends with status 0, from its table.
-use Rattle.std.proofs.Common.{◌≡◌, ◌⊎◌, ◌∙◌, ℕ, Bool, List, [], length, Option, Some, None, sym, ap, inl, inr, arith}
+use Rattle.std.proofs.Common.{◌≡◌, ◌⊎◌, ◌∙◌, ℕ, Bool, List, [], length, sym, ap, inl, inr, arith}
 use Rattle.vw_net.specs.declared.ordered.Ordered.{Ordered}
 use Rattle.vw_design.specs.Paths.{Word}
 use Rattle.vw_outside.specs.Told.{Told, held}
@@ -12,44 +12,42 @@ use Rattle.vw_course.proofs.CallTable.{call_table}
 use Rattle.vw_plan.specs.declared.board.Board.{Board}
 use Rattle.vw_plan.specs.declared.plan.Plan.{Plan}
 use Rattle.vw_courses.specs.Messages.{vocabulary, Call, CallWork}
-use Rattle.vw_courses.specs.Commands.{Scripts, course_of, grade_course, nets_course, netlist_state, netlist_trace, plan_rest, resume_course, saved_of, size_rest, trace_of, usage_course, wave_of, check_course, plan_course, plan_for_course, sim_course, wave_course, run_course, save_course, emit_course, demo_course}
+use Rattle.vw_courses.specs.Commands.{Scripts, course_of, grade_course, nets_course, netlist_state, netlist_trace, plan_rest, resume_course, saved_of, size_rest, trace_of, usage_course, wave_of, check_course, plan_course, sim_course, wave_course, run_course, save_course, emit_course, demo_course}
+use Rattle.vw_courses.specs.MayPlan.{PlanBy, made_here, of_file, for_chips, by_file, by_chips}
 use Rattle.vw_courses.specs.Words.{Spelled}
 use Rattle.vw_courses.specs.Words as words
 use Rattle.vw_courses.proofs.TextsOfDesigns.{saved_agree, traces_agree}
-use Rattle.vw_statuses.specs.CheckStatuses.{size_text}
 use Rattle.vw_statuses.specs.EmittedBoards.{BoardsShow}
-use Rattle.vw_statuses.specs.PlannedStatuses.{HoldsGiven, HoldTexts}
-use Rattle.vw_statuses.specs.PlanStatuses.{plan_text}
-use Rattle.vw_statuses.specs.Promises.{IsHeldPlan, Promise, WritesGrading, WritesNetlist, WritesPlanned, WritesPlanFor, WritesResumed}
-use Rattle.vw_statuses.specs.WrittenStatuses.{AlwaysFits, IsWritten}
+use Rattle.vw_statuses.specs.PlannedStatuses.{PlanTexts, HoldTexts}
+use Rattle.vw_statuses.specs.Promises.{AreHeld, Promise, WritesGrading, WritesNetlist, WritesPlanned, WritesResumed}
+use Rattle.vw_statuses.specs.WrittenStatuses.{AlwaysFits, IsWritten, plan_text, size_text}
 use Rattle.vw_statuses.proofs.DemoLaws.{demo_table}
 use Rattle.vw_statuses.proofs.EmitLaws.{emit_table}
 use Rattle.vw_statuses.proofs.HeadlineLaw.{headline, writes_over}
 use Rattle.vw_statuses.proofs.NetsLaws.{nets_table}
-use Rattle.vw_statuses.proofs.PlanForLaws.{done_for}
 use Rattle.vw_statuses.proofs.ResumeLaws.{resume_table}
 use Rattle.vw_statuses.proofs.RunLaws.{run_traced}
 use Rattle.vw_statuses.proofs.SimLaws.{grade_table, sim_table}
-use Rattle.vw_statuses.proofs.WrittenLaws.{done_written, plain_writer}
+use Rattle.vw_statuses.proofs.WrittenLaws.{plain_writer, written_ends}
 
 -- what out has after work that was done
 wrote : (What : CallWork → Type 0) (call : Call) (done : IsDone What call) (text : List ℕ) → done.did.text ≡ text → call.after.out ≡ appended call.before.out text
 wrote What call done text is = ap (λ (o : SeenOutside vocabulary.Word). o.out) done.leaves ∙ ap (appended call.before.out) is
 
 -- a text of a planned board
-planned : (probes : List Word) (given : Option (List ℕ)) (text : Ordered → Board → Plan → List ℕ) (design board : List ℕ) (d b p : List ℕ) (call : Call)
-    → IsDone (IsWritten probes design board given text AlwaysFits d b p) call → WritesPlanned probes given text d b p call.before.out call.after.out
-planned probes given text design board d b p call done = record {
+planned : (probes : List Word) (by : PlanBy) (text : Ordered → Board → Plan → List ℕ) (texts : PlanTexts) (call : Call) → IsDone (IsWritten probes by text AlwaysFits texts) call → WritesPlanned probes by text texts call.before.out call.after.out
+planned probes by text texts call done = record {
   ordered = done.is.ordered;
   board = done.is.its_board;
   plan = done.is.plan;
   are = done.is.are;
-  wrote = wrote (IsWritten probes design board given text AlwaysFits d b p) call done (text done.is.ordered done.is.its_board done.is.plan) (ap (λ (w : CallWork). w.text) done.is.is);
+  wrote = wrote (IsWritten probes by text AlwaysFits texts) call done (text done.is.ordered done.is.its_board done.is.plan) (ap (λ (w : CallWork). w.text) done.is.is);
 }
 
-held_plan : (call : Call) (given : Option (List ℕ)) (p : List ℕ) → IsHeldPlan call.before.shelf.told given p → HoldsGiven call given p
-held_plan call None p holds = tt
-held_plan call (Some name) p holds = holds
+hold_texts : (probes : List Word) (design board : List ℕ) (by : PlanBy) (call : Call) (texts : PlanTexts) → AreHeld call.before.shelf.told design board by texts → HoldTexts probes design board by call texts
+hold_texts probes design board made_here call texts are = record { design_held = are.0; board_held = are.1; plan_held = tt }
+hold_texts probes design board (of_file plan) call texts are = record { design_held = are.0; board_held = are.1; plan_held = are.2 }
+hold_texts probes design board (for_chips chips) call texts are = record { design_held = are.0; board_held = are.1; plan_held = are.2 }
 
 -- a text that is always the same
 constant : (text : List ℕ) (call : Call) → IsCallOf (writes {V = vocabulary} text) call → call.status ≡ 0 → call.after.out ≡ appended call.before.out text
@@ -60,12 +58,12 @@ constant text call is status =
 pub promised : BoardsShow → (spelled : Spelled) (call : Call) → IsCallOf (course_of spelled) call → call.status ≡ 0 → Promise spelled call.before.shelf.told call.before.out call.after.out
 promised show (words.sim design stimulus unknown probes) call is status = λ d s design_held stimulus_held.
     writes_over probes (trace_of unknown) design d s _ call
-    ((sim_table probes (trace_of unknown) design stimulus call is).traced.done d s (record { its_held = design_held; stimulus_held = stimulus_held }) status)
+    ((sim_table probes (trace_of unknown) design stimulus call is).traced.ends.done (d, s) (record { its_held = design_held; stimulus_held = stimulus_held }) status)
 promised show (words.wave design stimulus unknown probes) call is status = λ d s design_held stimulus_held.
     writes_over probes (wave_of probes unknown) design d s _ call
-    ((sim_table probes (wave_of probes unknown) design stimulus call is).traced.done d s (record { its_held = design_held; stimulus_held = stimulus_held }) status)
+    ((sim_table probes (wave_of probes unknown) design stimulus call is).traced.ends.done (d, s) (record { its_held = design_held; stimulus_held = stimulus_held }) status)
 promised show (words.grade design stimulus workers unknown) call is status = λ d s design_held stimulus_held.
-    let done = (grade_table unknown design stimulus call is).traced.done d s (record { its_held = design_held; stimulus_held = stimulus_held }) status in
+    let done = (grade_table unknown design stimulus call is).traced.ends.done (d, s) (record { its_held = design_held; stimulus_held = stimulus_held }) status in
     record {
       named = done.is.its;
       rows = done.is.rows;
@@ -74,37 +72,26 @@ promised show (words.grade design stimulus workers unknown) call is status = λ 
       wrote = ap (λ (o : SeenOutside vocabulary.Word). o.out) done.leaves ∙ ap (λ (w : CallWork). appended call.before.out w.text) done.is.is;
     }
 promised show (words.nets design probes) call is status = λ d design_held.
-    let done = (nets_table probes design call is).done d design_held status in
+    let done = (nets_table probes design call is).ends.done d design_held status in
     record {
       named = done.is.0;
       netlist_is = done.is.1;
       wrote = ap (λ (o : SeenOutside vocabulary.Word). o.out) done.leaves ∙ ap (λ (w : CallWork). appended call.before.out w.text) done.is.2;
     }
-promised show (words.check design board plan probes) call is status = λ d b p design_held board_held plan_held.
-    planned probes (Some plan) size_text design board d b p call
-    (done_written probes design board (Some plan) size_text AlwaysFits 0 size_rest (plain_writer size_text) call is d b p (record { design_held = design_held; board_held = board_held; plan_held = plan_held }) status)
-promised show (words.plan design board None probes) call is status = λ d b design_held board_held.
-    planned probes None plan_text design board d b [] call
-    (done_written probes design board None plan_text AlwaysFits 0 plan_rest (plain_writer plan_text) call is d b [] (record { design_held = design_held; board_held = board_held; plan_held = tt }) status)
-promised show (words.plan design board (Some chips) probes) call is status = λ d b c design_held board_held chips_held.
-    let done = done_for probes design board chips call is d b c (record { design_held = design_held; board_held = board_held; chips_held = chips_held }) status in
-    record {
-      ordered = done.is.ordered;
-      board = done.is.board;
-      chips = done.is.chips;
-      are = done.is.are;
-      plan = done.is.plan;
-      plan_is = done.is.plan_is;
-      wrote = ap (λ (o : SeenOutside vocabulary.Word). o.out) done.leaves ∙ ap (λ (w : CallWork). appended call.before.out w.text) done.is.is;
-    }
+promised show (words.check design board plan probes) call is status = λ texts are.
+    planned probes (of_file plan) size_text texts call
+    ((written_ends probes design board (of_file plan) size_text AlwaysFits [] size_rest (plain_writer size_text) (λ number one. tt) call is).done texts (hold_texts probes design board (of_file plan) call texts are) status)
+promised show (words.plan design board chips probes) call is status = λ texts are.
+    planned probes (by_chips chips) plan_text texts call
+    ((written_ends probes design board (by_chips chips) plan_text AlwaysFits [] plan_rest (plain_writer plan_text) (λ number one. tt) call is).done texts (hold_texts probes design board (by_chips chips) call texts are) status)
 promised show (words.run design board stimulus given workers unknown probes) call is status = λ d s design_held stimulus_held.
-    headline probes design board given stimulus workers unknown call is d s design_held stimulus_held status
+    headline probes design board (by_file given) stimulus workers unknown call is d s design_held stimulus_held status
 promised show (words.demo cells workers) call is status = (demo_table cells workers call is).done status
 promised show (words.save design board stimulus given workers unknown) call is status = λ d s design_held stimulus_held.
-    let traced = run_traced [] (saved_of unknown) (netlist_state unknown) (saved_agree [] unknown) design board given stimulus workers unknown call is in
-    writes_over [] (saved_of unknown) design d s _ call (traced.done d s (record { its_held = design_held; stimulus_held = stimulus_held }) status)
+    let traced = run_traced [] (saved_of unknown) (netlist_state unknown) (saved_agree [] unknown) design board (by_file given) stimulus workers unknown call is in
+    writes_over [] (saved_of unknown) design d s _ call (traced.ends.done (d, s) (record { its_held = design_held; stimulus_held = stimulus_held }) status)
 promised show (words.resume design board state stimulus given workers) call is status = λ d t s design_held state_held stimulus_held.
-    let done = (resume_table design board given state stimulus workers call is).traced.done (record { design = d; state = t }) s (record { its_held = (design_held, state_held); stimulus_held = stimulus_held }) status in
+    let done = (resume_table design board (by_file given) state stimulus workers call is).traced.ends.done (record { design = d; state = t }, s) (record { its_held = (design_held, state_held); stimulus_held = stimulus_held }) status in
     record {
       its = done.is.its;
       rows = done.is.rows;
@@ -112,8 +99,8 @@ promised show (words.resume design board state stimulus given workers) call is s
       rows_are = done.is.are.rows_are;
       wrote = ap (λ (o : SeenOutside vocabulary.Word). o.out) done.leaves ∙ ap (λ (w : CallWork). appended call.before.out w.text) done.is.is;
     }
-promised show (words.emit design board given) call is status = λ d b p design_held board_held plan_held.
-    (emit_table design board given call show is).acts d b p (record { design_held = design_held; board_held = board_held; plan_held = held_plan call given p plan_held }) status
+promised show (words.emit design board given) call is status = λ texts are.
+    (emit_table design board (by_file given) call show is).acts texts (hold_texts [] design board (by_file given) call texts are) status
 promised show words.help call is status = constant _ call is status
 promised show words.version call is status = constant _ call is status
 promised show (words.nothing place) call is status = absurd ((call_table (usage_course place) call is).done status).is

@@ -1,17 +1,17 @@
 -- What each status says of a command that runs something over the rows of a stimulus, and writes a text of this run.
-use Rattle.std.proofs.Common.{◌≡◌, ◌≢◌, ◌⊎◌, ℕ, Bool, List, [], ◌∷◌, Ok, refl, sym, ◌∙◌, ap, subst, inl, inr, lit<, arith}
+use Rattle.std.proofs.Common.{◌≡◌, ◌≢◌, ◌⊎◌, ℕ, Bool, List, [], ◌∷◌, Ok, refl, sym, ◌∙◌, ap, subst, inl, inr, ⊎_elim, lit<, arith}
 use Rattle.vw_outside.specs.Told.{Told, untold, absent, held}
 use Rattle.vw_course.specs.Course.{Course}
 use Rattle.vw_course.specs.Follows.{May, IsDoneBy}
 use Rattle.vw_course.specs.Endings.{IsCallOf}
 use Rattle.vw_course.specs.Places.{IsOneOf, Files, WorksHere, ReadsAgainHere, RefusesHere, StandsAt, IsToWork, IsToRefuse}
-use Rattle.vw_course.specs.Statuses.{MayDo, IsCarriedOut, Statuses}
-use Rattle.vw_course.proofs.CallTable.{call_table}
-use Rattle.vw_course.proofs.StandLaws.{held_work, call_works, call_refused}
-use Rattle.vw_course.proofs.EveryPlace.{Every, IsPassed, ReadsOnly, IsUnbroken, IsNever, IsHeldThere, passes_reads, passes_unbroken, passes_held, every_judges, every_stage, never_judges, never_stage, no_break_held, fault_at_one}
-use Rattle.vw_course.proofs.StageLaws.{IsBehind, past, past_judged, at_bad, judged_behind, work_past, refused_past, again_works, works_behind, again_behind, refusal_behind, refused_for}
+use Rattle.vw_course.specs.Statuses.{MayDo}
+use Rattle.vw_course.proofs.StandLaws.{held_work, call_refused}
+use Rattle.vw_course.proofs.EveryPlace.{KeepsTo, keeps_judged, keeps_stage, no_break_held}
+use Rattle.vw_course.proofs.Fronts.{end_table}
+use Rattle.vw_course.proofs.StageLaws.{IsBehind, past, past_judged, at_bad, judged_behind, work_past, refused_past, works_behind, again_behind, refusal_behind, refused_for}
 use Rattle.vw_course.proofs.BarredLaws.{IsBarred, barred_here}
-use Rattle.vw_course.proofs.CarriedOut.{completes, text_part, done_as, write_as, memory_as}
+use Rattle.vw_course.proofs.CarriedOut.{text_part}
 use Rattle.vw_rows.specs.Stimulus.{stimulus_rows}
 use Rattle.vw_courses.specs.declared.vocabulary.File.{File}
 use Rattle.vw_courses.specs.declared.vocabulary.File.TheVariants as kinds
@@ -21,23 +21,19 @@ use Rattle.vw_courses.specs.Messages.{reason_status, vocabulary, Call, CallWork}
 use Rattle.vw_courses.specs.Kinds.{rows_kind, IsBadStimulus, IsRowsOf}
 use Rattle.vw_courses.specs.Commands.{TextOver, Scripts, tracing, IsSomeTrace, RowCheck, no_check, check_by, with_check, checked_rows_course, trace_course}
 use Rattle.vw_courses.proofs.RowChecks.{PassCheck}
-use Rattle.vw_statuses.specs.TracedStatuses.{Subject, AreSpelled, IsTrace, IsAnyTrace, IsTraceOf, IsBadRows, HoldTexts, TracedStatuses}
+use Rattle.vw_statuses.specs.TracedStatuses.{Subject, AreSpelled, IsTrace, IsAnyTrace, IsTraceOf, IsBadRows, HoldTexts, HoldBoth, Run, IsRun, TracedStatuses}
 
 -- ---- the check of rows
 
--- no check refuses with this status
-abbrev pub ChecksNever : RowCheck → ℕ → Type 0
-ChecksNever no_check number = Unit {0}
-ChecksNever (check_by judged) number = 11 ≢ number
+-- a check refuses with one of these statuses
+abbrev pub ChecksAmong : RowCheck → List ℕ → Type 0
+ChecksAmong no_check numbers = Unit {0}
+ChecksAmong (check_by judged) numbers = IsOneOf numbers 11
 
 module _ (next : List (List Bool) → Course vocabulary) (rows : List (List Bool)) where
-  every_checked : (files : Files vocabulary) (Q : Course vocabulary → Type 0) → IsPassed files Q → (check : RowCheck) → Every Q (next rows) → Every Q (with_check check next rows)
-  every_checked files Q passed no_check all = all
-  every_checked files Q passed (check_by judged) all = every_judges files Q passed (judged rows) (λ done. next rows) (λ done. all)
-
-  never_checked : (number : ℕ) (check : RowCheck) → ChecksNever check number → Every (IsNever number) (next rows) → Every (IsNever number) (with_check check next rows)
-  never_checked number no_check differs all = all
-  never_checked number (check_by judged) differs all = never_judges number (judged rows) (λ done. next rows) differs (λ done. all)
+  keeps_checked : (files anew : Files vocabulary) (numbers broken : List ℕ) (check : RowCheck) → ChecksAmong check numbers → KeepsTo files anew numbers broken (next rows) → KeepsTo files anew numbers broken (with_check check next rows)
+  keeps_checked files anew numbers broken no_check one keeps = keeps
+  keeps_checked files anew numbers broken (check_by judged) one keeps = keeps_judged files anew numbers broken (judged rows) (λ done. next rows) one (λ done. keeps)
 
   module _ (told : List ℕ → Told) (P : Course vocabulary → Type 0) where
     -- what holds behind stimuli, holds behind the check
@@ -74,23 +70,11 @@ module _ (stimulus : List ℕ) (width : ℕ) (check : RowCheck) (trace : List (L
   abbrev here : Files vocabulary
   here = (kinds.Stimulus, stimulus) ∷ []
 
-  -- every place
-  pub reads_rows : (files : Files vocabulary) → IsOneOf files (kinds.Stimulus, stimulus) → Every (ReadsOnly files) its_rows
-  reads_rows files one = every_stage files (ReadsOnly files) (passes_reads vocabulary files) (rows_kind width) stimulus next one (λ rows. every_checked written rows files (ReadsOnly files) (passes_reads vocabulary files) check one)
-
-  pub unbroken_rows : (number : ℕ) → 5 ≢ number → Every (IsUnbroken number) its_rows
-  unbroken_rows number no_five =
-      every_stage here (IsUnbroken number) (passes_unbroken vocabulary here number) (rows_kind width) stimulus next (inl refl)
-      (λ rows. every_checked written rows here (IsUnbroken number) (passes_unbroken vocabulary here number) check (λ reason bad is. no_five (sym (ap reason_status bad.1) ∙ is)))
-
-  pub never_rows : (number : ℕ) → 5 ≢ number → ChecksNever check number → Every (IsNever number) its_rows
-  never_rows number no_five differs = never_stage number (rows_kind width) stimulus next no_five (λ rows. never_checked written rows number check differs tt)
+  pub keeps_rows : (files : Files vocabulary) (numbers : List ℕ) → IsOneOf files (kinds.Stimulus, stimulus) → IsOneOf numbers 5 → ChecksAmong check numbers → KeepsTo files here numbers (5 ∷ []) its_rows
+  keeps_rows files numbers one five among = keeps_stage files here numbers (5 ∷ []) (rows_kind width) stimulus next one five
+      (λ rows. keeps_checked written rows files here numbers (5 ∷ []) check among (inl refl, λ reason bad. inl (ap reason_status bad.1)))
 
   module _ (told : List ℕ → Told) where
-    pub held_rows : (s : List ℕ) → told stimulus ≡ held s → Every (IsHeldThere told) its_rows
-    held_rows s held_s = every_stage here (IsHeldThere told) (passes_held vocabulary here told) (rows_kind width) stimulus next (inl refl)
-        (λ rows. every_checked written rows here (IsHeldThere told) (passes_held vocabulary here told) check (s, held_s))
-
     pub barred_rows : (numbers : List ℕ) → told stimulus ≡ absent → IsBarred told numbers its_rows
     barred_rows numbers gone = barred_here told numbers (rows_kind width) stimulus next gone
 
@@ -132,11 +116,10 @@ module _ (stimulus : List ℕ) (width : ℕ) (check : RowCheck) (trace : List (L
 
 -- ---- a course that comes to them
 
--- of a command with these files, which uses links so: behind some thing that its texts spell it comes to the rows of its
--- stimulus, and where it is ready, whatever good things it goes on by; and then the rows pass the check for the thing
-pub record ComesToRows (subject : Subject) (check : subject.Thing → RowCheck) (text : TextOver subject.Thing) (stimulus : List ℕ) (course : Course vocabulary) (call : Call) (files : Files vocabulary) (IsReady : Call → subject.Texts → List ℕ → Type 0) (Uses : Scripts → Type 0) : Type 1 where
-  pub reads : Every (ReadsOnly files) course
-  pub held_again : (s : List ℕ) → call.before.shelf.told stimulus ≡ held s → Every (IsHeldThere call.before.shelf.told) course
+-- of a command with these files and statuses, which uses links so: behind some thing that its texts spell it comes to the rows of
+-- its stimulus, and where it is ready, whatever good things it goes on by; and then the rows pass the check for the thing
+pub record ComesToRows (subject : Subject) (check : subject.Thing → RowCheck) (text : TextOver subject.Thing) (stimulus : List ℕ) (course : Course vocabulary) (call : Call) (files : Files vocabulary) (numbers : List ℕ) (IsReady : Call → subject.Texts → List ℕ → Type 0) (Uses : Scripts → Type 0) : Type 1 where
+  pub keeps : KeepsTo files ((kinds.Stimulus, stimulus) ∷ []) numbers (5 ∷ []) course
   pub behind : (P : Course vocabulary → Type 0) → IsBehind 5 P → May call.before.shelf.told P course
       → (its : subject.Thing) × ((texts : subject.Texts) → subject.Hold call texts → subject.Spells texts its)
       × (scripts : Scripts) × Uses scripts × May call.before.shelf.told P (checked_rows_course stimulus (subject.width its) (check its) (text its) scripts)
@@ -146,8 +129,8 @@ pub record ComesToRows (subject : Subject) (check : subject.Thing → RowCheck) 
   pub passes : (texts : subject.Texts) (s : List ℕ) → IsReady call texts s → (its : subject.Thing) (rows : List (List Bool)) → AreSpelled subject texts s its rows → PassCheck (check its) rows
   pub one : IsOneOf files (kinds.Stimulus, stimulus)
 
-module _ (subject : Subject) (check : subject.Thing → RowCheck) (text : TextOver subject.Thing) (stimulus : List ℕ) (course : Course vocabulary) (call : Call) (files : Files vocabulary) (IsReady : Call → subject.Texts → List ℕ → Type 0) (Uses : Scripts → Type 0)
-    (its : ComesToRows subject check text stimulus course call files IsReady Uses) where
+module _ (subject : Subject) (check : subject.Thing → RowCheck) (text : TextOver subject.Thing) (stimulus : List ℕ) (course : Course vocabulary) (call : Call) (files : Files vocabulary) (numbers : List ℕ) (IsReady : Call → subject.Texts → List ℕ → Type 0) (Uses : Scripts → Type 0)
+    (its : ComesToRows subject check text stimulus course call files numbers IsReady Uses) where
   abbrev told : List ℕ → Told
   told = call.before.shelf.told
 
@@ -182,9 +165,6 @@ module _ (subject : Subject) (check : subject.Thing → RowCheck) (text : TextOv
           is = done.2;
         }
 
-    trace_again : (file : File) (name : List ℕ) (did : CallWork) → May told (ReadsAgainHere told file name did) course → Traced texts s did
-    trace_again file name did may = trace_by did (again_works told file name did course may)
-
     rows_why : (reason : Reason) → reason_status reason ≡ 5 → May told (RefusesHere reason) course → Bad texts s reason
     rows_why reason same may =
         let later = its.behind (RefusesHere reason) (refusal_behind told 5 reason same) may in
@@ -196,28 +176,23 @@ module _ (subject : Subject) (check : subject.Thing → RowCheck) (text : TextOv
         its.comes (IsToRefuse (Bad texts s)) texts s ready thing of
         (λ scripts uses. to_bad_rows stimulus (subject.width thing) (check thing) (text thing) scripts told s (its.ready_held texts s ready) files its.one (Bad texts s) reason bad (λ other so. (thing, of, so)))
 
-    runs : (thing : subject.Thing) (rows : List (List Bool)) → AreSpelled subject texts s thing rows → IsCarriedOut vocabulary (IsTraceOf subject text thing rows Uses) files call
-    runs thing rows are =
-        call_works vocabulary files call (IsTraceOf subject text thing rows Uses) course is
-        (its.comes (IsToWork told files (IsTraceOf subject text thing rows Uses)) texts s ready thing are.spells
-        (λ scripts uses. to_trace stimulus (subject.width thing) (check thing) (text thing) scripts told s (its.ready_held texts s ready) files its.one (IsTraceOf subject text thing rows Uses) rows are.rows_are (its.passes texts s ready thing rows are) (scripts, uses, refl)))
-
-  its_text_is : (thing : subject.Thing) (rows : List (List Bool)) (did : CallWork) → IsTraceOf subject text thing rows Uses did → did.text ≡ text thing rows
-  its_text_is thing rows did (scripts, uses, is) = ap (λ (w : CallWork). w.text) is
+  to_run : (run : Run subject text stimulus) → IsRun subject text stimulus IsReady call run → StandsAt told files (IsToWork told files (IsTraceOf subject text run.its run.rows Uses)) course
+  to_run run is_run =
+      its.comes (IsToWork told files (IsTraceOf subject text run.its run.rows Uses)) run.texts run.s is_run.ready run.its is_run.are.spells
+      (λ scripts uses. to_trace stimulus (subject.width run.its) (check run.its) (text run.its) scripts told run.s (its.ready_held run.texts run.s is_run.ready) files its.one (IsTraceOf subject text run.its run.rows Uses) run.rows is_run.are.rows_are
+      (its.passes run.texts run.s is_run.ready run.its run.rows is_run.are) (scripts, uses, refl))
 
   pub traced_table : IsCallOf course call → TracedStatuses subject text stimulus files IsReady Uses call
   traced_table is =
-      let table : Statuses course call = call_table course call is in
+      let anew : Files vocabulary = (kinds.Stimulus, stimulus) ∷ [] in
+      let ends = end_table files anew numbers (5 ∷ []) course its.keeps (λ file one. ⊎_elim (λ same. subst (IsOneOf files) (sym same) its.one) (λ none. absurd none) one) call is
+      (HoldBoth subject text stimulus) (λ both. Traced both.0 both.1) Any (IsRun subject text stimulus IsReady) (λ run. IsTraceOf subject text run.its run.rows Uses)
+      (λ both hold did may. trace_by both.0 both.1 hold did may) any_by to_run in
       record {
-        done = λ texts s hold status. done_as (MayDo course call) (Traced texts s) (trace_by texts s hold) call (table.done status);
-        no_rows = λ texts s hold. refused_for course call is 5 (Bad texts s) (rows_why texts s hold) (λ reason did same may. no_break_held told course (its.held_again s hold.stimulus_held) reason did may) (lit< tt) (inl (lit< tt));
+        no_rows = λ texts s hold. refused_for course call is 5 (Bad texts s) (rows_why texts s hold)
+            (λ reason did same may. no_break_held told files anew numbers (5 ∷ []) course its.keeps ((s, hold.stimulus_held), tt) reason did may) (lit< tt) (inl (lit< tt));
         no_rows_comes = λ texts s thing fault ready of said.
             call_refused vocabulary files call (Bad texts s) course is (refuses is texts s ready thing (reasons.Stimulus fault) of (fault, refl, said));
-        read_fault = fault_at_one course call is files its.reads Any any_by;
-        read_fault_held = λ texts s hold. fault_at_one course call is files its.reads (Traced texts s) (trace_again texts s hold);
-        write_fault = λ texts s hold status. write_as (MayDo course call) (Traced texts s) (trace_by texts s hold) call (table.write_fault status);
-        want_of_memory = λ texts s hold status. memory_as (MayDo course call) (Traced texts s) (trace_by texts s hold) call (table.want_of_memory status);
-        accepted = λ texts s thing rows ready are. runs is texts s ready thing rows are;
-        part = λ texts s thing rows ready are. text_part vocabulary (IsTraceOf subject text thing rows Uses) (text thing rows) (its_text_is thing rows) call files (runs is texts s ready thing rows are);
-        complete = λ texts s thing rows ready are. completes vocabulary (IsTraceOf subject text thing rows Uses) call files (runs is texts s ready thing rows are);
+        ends = ends;
+        part = λ run is_run. text_part vocabulary (IsTraceOf subject text run.its run.rows Uses) (text run.its run.rows) (λ did does. ap (λ (w : CallWork). w.text) does.2) call files (ends.accepted run is_run);
       }

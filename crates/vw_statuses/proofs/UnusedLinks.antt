@@ -13,7 +13,8 @@ use Rattle.vw_batches.specs.Traffic.{scripts_of}
 use Rattle.vw_gen.specs.Summary.{summary}
 use Rattle.vw_courses.specs.Demo.{board_name, design_name, generated, stimulus_name}
 use Rattle.vw_courses.specs.Messages.{vocabulary, Call, CallWork}
-use Rattle.vw_courses.specs.Commands.{Scripts, no_links, IsSomeTrace, trace_course, rows_course, TextOver, over_design_course, netlist_trace, Rest, size_rest, plan_rest, plan_with_course, emit_rest, ready_course, over_rows_course, resume_rest, course_of, demo_run}
+use Rattle.vw_courses.specs.Commands.{Scripts, no_links, IsSomeTrace, trace_course, rows_course, TextOver, over_design_course, netlist_trace, Rest, size_rest, plan_rest, emit_rest, ready_course, over_rows_course, resume_rest, course_of, demo_run}
+use Rattle.vw_courses.specs.MayPlan.{PlanBy, made_here, of_file, for_chips, by_file, by_chips}
 use Rattle.vw_courses.specs.Words.{Spelled, uses_links}
 use Rattle.vw_courses.specs.Words as words
 
@@ -36,37 +37,33 @@ design_unused : (probes : List ProbeWord) (design stimulus : List ℕ) (text : T
 design_unused probes design stimulus text = λ d watched good. rows_unused stimulus _ (text watched) no_links (λ rows. refl)
 
 -- a planned board, whatever comes behind it
-ready_unused : (probes : List ProbeWord) (design board : List ℕ) (given : Option (List ℕ)) (rest : Rest) → ((ordered : Ordered) (board : Board) (plan : Plan) → UsesNoLinks (rest ordered board plan))
-    → UsesNoLinks (ready_course probes design board given rest)
-ready_unused probes design board None rest own = λ d ordered good b its fine plan is. own ordered its plan
-ready_unused probes design board (Some name) rest own = λ d ordered good b its fine p plan is done sound. own ordered its plan
+ready_unused : (probes : List ProbeWord) (design board : List ℕ) (by : PlanBy) (rest : Rest) → ((ordered : Ordered) (board : Board) (plan : Plan) → UsesNoLinks (rest ordered board plan))
+    → UsesNoLinks (ready_course probes design board by rest)
+ready_unused probes design board made_here rest own = λ d ordered good b its fine plan is. own ordered its plan
+ready_unused probes design board (of_file name) rest own = λ d ordered good b its fine p plan is done sound. own ordered its plan
+ready_unused probes design board (for_chips name) rest own = λ d ordered good b its fine c chips are plan is. own ordered its plan
 
-over_rows_unused : (probes : List ProbeWord) (design board : List ℕ) (given : Option (List ℕ)) (stimulus : List ℕ) (text : TextOver Ordered) (workers : ℕ) (unknown : Bool) → ltb 1 workers ≡ false
-    → UsesNoLinks (over_rows_course probes design board given stimulus text workers unknown)
-over_rows_unused probes design board given stimulus text workers unknown few =
-    ready_unused probes design board given _ (λ ordered its plan. rows_unused stimulus ordered.flat.inputs (text ordered) _ (λ rows. none_used workers few _))
+over_rows_unused : (probes : List ProbeWord) (design board : List ℕ) (by : PlanBy) (stimulus : List ℕ) (text : TextOver Ordered) (workers : ℕ) (unknown : Bool) → ltb 1 workers ≡ false
+    → UsesNoLinks (over_rows_course probes design board by stimulus text workers unknown)
+over_rows_unused probes design board by stimulus text workers unknown few =
+    ready_unused probes design board by _ (λ ordered its plan. rows_unused stimulus ordered.flat.inputs (text ordered) _ (λ rows. none_used workers few _))
 
 resume_unused : (state stimulus : List ℕ) (workers : ℕ) → ltb 1 workers ≡ false → (ordered : Ordered) (board : Board) (plan : Plan) → UsesNoLinks (resume_rest state stimulus workers ordered board plan)
 resume_unused state stimulus workers few ordered board plan =
     λ t its good s rows fine done fit. trace_unused stimulus ordered.flat.inputs _ _ (λ rows. none_used workers few _) rows
-
--- a plan, with chips that are given or with good ones
-plan_unused : (probes : List ProbeWord) (design board : List ℕ) (chips : Option (List ℕ)) → UsesNoLinks (plan_with_course probes design board chips)
-plan_unused probes design board None = ready_unused probes design board None plan_rest (λ ordered its plan. refl)
-plan_unused probes design board (Some chips) = λ d ordered good b its fine c placed is plan so. refl
 
 course_unused : (spelled : Spelled) → uses_links spelled ≡ false → UsesNoLinks (course_of spelled)
 course_unused (words.sim design stimulus unknown probes) none = design_unused probes design stimulus _
 course_unused (words.wave design stimulus unknown probes) none = design_unused probes design stimulus _
 course_unused (words.grade design stimulus workers unknown) none = λ d named good. rows_unused stimulus _ _ no_links (λ rows. refl)
 course_unused (words.nets design probes) none = λ d named good. refl
-course_unused (words.check design board plan probes) none = ready_unused probes design board (Some plan) size_rest (λ ordered its sound. refl)
-course_unused (words.plan design board chips probes) none = plan_unused probes design board chips
-course_unused (words.run design board stimulus given workers unknown probes) none = over_rows_unused probes design board given stimulus _ workers unknown none
-course_unused (words.demo cells workers) none = texts_unused vocabulary (generated cells) (summary cells) (demo_run workers) (over_rows_unused [] design_name board_name None stimulus_name (netlist_trace 0 false) workers false none)
-course_unused (words.save design board stimulus given workers unknown) none = over_rows_unused [] design board given stimulus _ workers unknown none
-course_unused (words.resume design board state stimulus given workers) none = ready_unused [] design board given (resume_rest state stimulus workers) (resume_unused state stimulus workers none)
-course_unused (words.emit design board given) none = ready_unused [] design board given emit_rest (λ ordered its plan done fits. refl)
+course_unused (words.check design board plan probes) none = ready_unused probes design board (of_file plan) size_rest (λ ordered its sound. refl)
+course_unused (words.plan design board chips probes) none = ready_unused probes design board (by_chips chips) plan_rest (λ ordered its plan. refl)
+course_unused (words.run design board stimulus given workers unknown probes) none = over_rows_unused probes design board (by_file given) stimulus _ workers unknown none
+course_unused (words.demo cells workers) none = texts_unused vocabulary (generated cells) (summary cells) (demo_run workers) (over_rows_unused [] design_name board_name made_here stimulus_name (netlist_trace 0 false) workers false none)
+course_unused (words.save design board stimulus given workers unknown) none = over_rows_unused [] design board (by_file given) stimulus _ workers unknown none
+course_unused (words.resume design board state stimulus given workers) none = ready_unused [] design board (by_file given) (resume_rest state stimulus workers) (resume_unused state stimulus workers none)
+course_unused (words.emit design board given) none = ready_unused [] design board (by_file given) emit_rest (λ ordered its plan done fits. refl)
 course_unused words.help none = refl
 course_unused words.version none = refl
 course_unused (words.nothing place) none = tt

@@ -1,4 +1,3 @@
-pub mod CheckStatuses
 pub mod ConstantStatuses
 pub mod DemoStatuses
 pub mod EmitStatuses
@@ -7,8 +6,6 @@ pub mod Headline
 pub mod LinkTraffic
 pub mod NetsStatuses
 pub mod Pieces
-pub mod PlanForStatuses
-pub mod PlanStatuses
 pub mod PlannedStatuses
 pub mod Promises
 pub mod ResumeStatuses

@@ -1,6 +1,6 @@
 -- What each command has written where it ends with status 0, by its words and its files alone: no course, no message and no other
 -- status is spoken of.
-use Rattle.std.specs.Prelude.{◌≡◌, ℕ, Bool, List, [], length, Option, Some, None}
+use Rattle.std.specs.Prelude.{◌≡◌, ℕ, Bool, List, [], length}
 use Rattle.vw_net.specs.declared.ordered.Ordered.{Ordered}
 use Rattle.vw_design.specs.Paths.{Word}
 use Rattle.vw_front.specs.declared.named.NamedNetlist.{NamedNetlist}
@@ -9,19 +9,17 @@ use Rattle.vw_outside.specs.Told.{Told, held}
 use Rattle.vw_outside.specs.Writes.{SeenSink, appended}
 use Rattle.vw_plan.specs.declared.board.Board.{Board}
 use Rattle.vw_plan.specs.declared.plan.Plan.{Plan}
-use Rattle.vw_run.specs.GivenChips.{IsPlanFor}
-use Rattle.vw_courses.specs.Commands.{grading_of, nets_text, saved_of, text_of_plan, trace_of, wave_of}
+use Rattle.vw_courses.specs.Commands.{grading_of, nets_text, saved_of, trace_of, wave_of}
 use Rattle.vw_courses.specs.Help.{help_text, version_text}
 use Rattle.vw_courses.specs.Kinds.{IsRowsOf}
+use Rattle.vw_courses.specs.MayPlan.{PlanBy, made_here, of_file, for_chips, by_file, by_chips}
 use Rattle.vw_courses.specs.Words.{Spelled}
 use Rattle.vw_courses.specs.Words as words
-use Rattle.vw_statuses.specs.CheckStatuses.{size_text}
 use Rattle.vw_statuses.specs.DemoStatuses.{HasSummary}
 use Rattle.vw_statuses.specs.EmittedBoards.{WritesBoard}
 use Rattle.vw_statuses.specs.Headline.{WritesOver, WritesTrace}
-use Rattle.vw_statuses.specs.PlanForStatuses.{AreGiven}
-use Rattle.vw_statuses.specs.PlannedStatuses.{AreSpelled}
-use Rattle.vw_statuses.specs.PlanStatuses.{plan_text}
+use Rattle.vw_statuses.specs.PlannedStatuses.{PlanTexts, AreSpelled}
+use Rattle.vw_statuses.specs.WrittenStatuses.{plan_text, size_text}
 use Rattle.vw_statuses.specs.ResumeStatuses.{AreResumed, Resumption, ResumeTexts, trace_from_state}
 
 -- out has, behind what it had before, the grading of the netlist of one text over the rows of the other
@@ -38,23 +36,13 @@ pub record WritesNetlist (probes : List Word) (d : List ℕ) (before after : See
   pub netlist_is : IsNamedNetlistOf probes d named
   pub wrote : after ≡ appended before (nets_text probes named)
 
--- such a text of a planned board, by a plan that is given and sound, or made and good
-pub record WritesPlanned (probes : List Word) (given : Option (List ℕ)) (text : Ordered → Board → Plan → List ℕ) (d b p : List ℕ) (before after : SeenSink) : Type 0 where
+-- such a text of a planned board, by a plan that is given and sound, or made and good, or made for the chips of a text
+pub record WritesPlanned (probes : List Word) (by : PlanBy) (text : Ordered → Board → Plan → List ℕ) (texts : PlanTexts) (before after : SeenSink) : Type 0 where
   pub ordered : Ordered
   pub board : Board
   pub plan : Plan
-  pub are : AreSpelled probes given d b p ordered board plan
+  pub are : AreSpelled probes by texts ordered board plan
   pub wrote : after ≡ appended before (text ordered board plan)
-
--- the text of a plan with exactly the chips of a text
-pub record WritesPlanFor (probes : List Word) (d b c : List ℕ) (before after : SeenSink) : Type 0 where
-  pub ordered : Ordered
-  pub board : Board
-  pub chips : List ℕ
-  pub are : AreGiven probes d b c ordered board chips
-  pub plan : Plan
-  pub plan_is : IsPlanFor ordered board chips plan
-  pub wrote : after ≡ appended before (text_of_plan plan)
 
 -- the trace of the netlist of one text, from the state of another on, over the rows of the third
 pub record WritesResumed (texts : ResumeTexts) (s : List ℕ) (before after : SeenSink) : Type 0 where
@@ -64,10 +52,11 @@ pub record WritesResumed (texts : ResumeTexts) (s : List ℕ) (before after : Se
   pub rows_are : IsRowsOf its.ordered.flat.inputs s rows
   pub wrote : after ≡ appended before (trace_from_state its rows)
 
--- the text of the plan that is given is held
-abbrev pub IsHeldPlan : (List ℕ → Told) → Option (List ℕ) → List ℕ → Type 0
-IsHeldPlan told None p = Unit {0}
-IsHeldPlan told (Some name) p = told name ≡ held p
+-- the texts of the design, the board, and the plan or the chips that are given, are held
+abbrev pub AreHeld : (List ℕ → Told) → List ℕ → List ℕ → PlanBy → PlanTexts → Type 0
+AreHeld told design board made_here texts = (told design ≡ held texts.design) × (told board ≡ held texts.board)
+AreHeld told design board (of_file plan) texts = (told design ≡ held texts.design) × (told board ≡ held texts.board) × (told plan ≡ held texts.plan)
+AreHeld told design board (for_chips chips) texts = (told design ≡ held texts.design) × (told board ≡ held texts.board) × (told chips ≡ held texts.plan)
 
 -- what a command has written, by what was told of its files before; words that spell none never end so
 abbrev pub Promise : Spelled → (List ℕ → Told) → SeenSink → SeenSink → Type 0
@@ -75,19 +64,15 @@ Promise (words.sim design stimulus unknown probes) told before after = (d s : Li
 Promise (words.wave design stimulus unknown probes) told before after = (d s : List ℕ) → told design ≡ held d → told stimulus ≡ held s → WritesOver probes (wave_of probes unknown) d s before after
 Promise (words.grade design stimulus workers unknown) told before after = (d s : List ℕ) → told design ≡ held d → told stimulus ≡ held s → WritesGrading unknown d s before after
 Promise (words.nets design probes) told before after = (d : List ℕ) → told design ≡ held d → WritesNetlist probes d before after
-Promise (words.check design board plan probes) told before after =
-    (d b p : List ℕ) → told design ≡ held d → told board ≡ held b → told plan ≡ held p → WritesPlanned probes (Some plan) size_text d b p before after
-Promise (words.plan design board None probes) told before after = (d b : List ℕ) → told design ≡ held d → told board ≡ held b → WritesPlanned probes None plan_text d b [] before after
-Promise (words.plan design board (Some chips) probes) told before after =
-    (d b c : List ℕ) → told design ≡ held d → told board ≡ held b → told chips ≡ held c → WritesPlanFor probes d b c before after
+Promise (words.check design board plan probes) told before after = (texts : PlanTexts) → AreHeld told design board (of_file plan) texts → WritesPlanned probes (of_file plan) size_text texts before after
+Promise (words.plan design board chips probes) told before after = (texts : PlanTexts) → AreHeld told design board (by_chips chips) texts → WritesPlanned probes (by_chips chips) plan_text texts before after
 Promise (words.run design board stimulus given workers unknown probes) told before after = (d s : List ℕ) → told design ≡ held d → told stimulus ≡ held s → WritesTrace probes unknown d s before after
 Promise (words.demo cells workers) told before after = HasSummary cells (λ text. after ≡ appended before text)
 Promise (words.save design board stimulus given workers unknown) told before after =
     (d s : List ℕ) → told design ≡ held d → told stimulus ≡ held s → WritesOver [] (saved_of unknown) d s before after
 Promise (words.resume design board state stimulus given workers) told before after =
     (d t s : List ℕ) → told design ≡ held d → told state ≡ held t → told stimulus ≡ held s → WritesResumed (record { design = d; state = t }) s before after
-Promise (words.emit design board given) told before after =
-    (d b p : List ℕ) → told design ≡ held d → told board ≡ held b → IsHeldPlan told given p → WritesBoard given d b p before after
+Promise (words.emit design board given) told before after = (texts : PlanTexts) → AreHeld told design board (by_file given) texts → WritesBoard (by_file given) texts before after
 Promise words.help told before after = after ≡ appended before help_text
 Promise words.version told before after = after ≡ appended before version_text
 Promise (words.nothing place) told before after = ⊥

@@ -1,11 +1,11 @@
 -- What each status of `resume` says of its files.
-use Rattle.std.specs.Prelude.{◌≡◌, ◌≢◌, ◌<◌, ◌≤◌, ◌+◌, ◌⊎◌, ℕ, Bool, List, [], ◌∷◌, length, Option}
+use Rattle.std.specs.Prelude.{◌≡◌, ◌<◌, ◌≤◌, ◌+◌, ◌++◌, ◌⊎◌, ℕ, Bool, List, [], ◌∷◌, length}
 use Rattle.vw_net.specs.declared.ordered.Ordered.{Ordered}
 use Rattle.vw_net.specs.Cells.{latch_count}
 use Rattle.vw_outside.specs.Told.{Told, IsTextOf}
 use Rattle.vw_course.specs.Outside.{carried}
 use Rattle.vw_course.specs.Places.{Files}
-use Rattle.vw_course.specs.Statuses.{IsRefusedFor, IsStopped, Holds, IsAbsent, IsUnworked}
+use Rattle.vw_course.specs.Statuses.{IsRefusedFor, IsStopped, Holds, IsAbsent, IsUnworked, HasStatus}
 use Rattle.vw_front.specs.Designs.{IsNetlistOf}
 use Rattle.vw_plan.specs.declared.board.Board.{Board}
 use Rattle.vw_plan.specs.declared.plan.Plan.{Plan}
@@ -19,8 +19,8 @@ use Rattle.vw_courses.specs.Messages.{vocabulary, Call}
 use Rattle.vw_courses.specs.Kinds.{IsStateOf, IsBadState, AreTooManyClocks}
 use Rattle.vw_courses.specs.Commands.{TextOver, Scripts, scripts_from}
 use Rattle.vw_statuses.specs.TracedStatuses.{Subject, AreSpelled, TracedStatuses}
-use Rattle.vw_statuses.specs.PlannedStatuses.{IsTheirPlan, HavePlan, plan_status, other_status, with_given, HoldTexts, PlannedStatuses}
-use Rattle.vw_courses.specs.MayPlan.{MaySpell}
+use Rattle.vw_statuses.specs.PlannedStatuses.{PlanTexts, IsTheirPlan, HavePlan, plan_statuses, with_given, HoldTexts, PlannedStatuses}
+use Rattle.vw_courses.specs.MayPlan.{PlanBy, MaySpell}
 
 -- the text of a design, and that of a state
 pub record ResumeTexts : Type 0 where
@@ -47,7 +47,7 @@ pub record IsNoState (texts : ResumeTexts) (reason : Reason) : Type 0 where
   pub netlist : IsNetlistOf [] texts.design ordered
   pub bad : IsBadState (latch_count ordered.flat.cells) texts.state reason
 
-module _ (design board : List ℕ) (given : Option (List ℕ)) (state stimulus : List ℕ) (workers : ℕ) where
+module _ (design board : List ℕ) (by : PlanBy) (state stimulus : List ℕ) (workers : ℕ) where
   abbrev pub resumptions : Subject
   resumptions = record {
     Texts = ResumeTexts;
@@ -59,14 +59,14 @@ module _ (design board : List ℕ) (given : Option (List ℕ)) (state stimulus :
 
   -- its files: the plan, where one is given, before the state, and the stimulus behind it
   abbrev pub up_to_state : Files vocabulary
-  up_to_state = (files.Design, design) ∷ ((files.Board, board) ∷ with_given given ((files.State, state) ∷ []))
+  up_to_state = (files.Design, design) ∷ ((files.Board, board) ∷ with_given by ((files.State, state) ∷ []))
 
   abbrev pub its_files : Files vocabulary
-  its_files = (files.Design, design) ∷ ((files.Board, board) ∷ with_given given ((files.State, state) ∷ ((files.Stimulus, stimulus) ∷ [])))
+  its_files = (files.Design, design) ∷ ((files.Board, board) ∷ with_given by ((files.State, state) ∷ ((files.Stimulus, stimulus) ∷ [])))
 
   -- texts that the names may have spell these, with such a plan and such a state
   pub record MayResume (told : List ℕ → Told) (ordered : Ordered) (its_board : Board) (plan : Plan) (its_state : State) : Type 0 where
-    pub on : MaySpell [] design board given told ordered its_board plan
+    pub on : MaySpell [] design board by told ordered its_board plan
     pub t : List ℕ
     pub state_of : IsTextOf (told state) t
     pub state_is : IsStateOf (latch_count ordered.flat.cells) t its_state
@@ -80,14 +80,18 @@ module _ (design board : List ℕ) (given : Option (List ℕ)) (state stimulus :
     pub is : MayResume told ordered its_board plan its_state
     pub are : scripts ≡ scripts_from workers (planned_board ordered its_board plan) its_state.clock its_state.latches
 
+  -- all but the stimulus are held, and there is a plan
+  pub record IsReadyPlan (call : Call) (texts : ResumeTexts) : Type 0 where
+    pub plan_texts : PlanTexts
+    pub design_is : plan_texts.design ≡ texts.design
+    pub planned_held : HoldTexts [] design board by call plan_texts
+    pub state_held : Holds call state texts.state
+    pub have : HavePlan [] by plan_texts
+
   -- all its texts are held, there is a plan, and no rows of the stimulus are too many
   pub record IsReady (call : Call) (texts : ResumeTexts) (s : List ℕ) : Type 0 where
-    pub b : List ℕ
-    pub p : List ℕ
-    pub planned_held : HoldTexts [] design board given call texts.design b p
-    pub state_held : Holds call state texts.state
+    pub planned : IsReadyPlan call texts
     pub stimulus_held : Holds call stimulus s
-    pub have : HavePlan [] given texts.design b p
     pub fit : (its : Resumption) (rows : List (List Bool)) → AreSpelled resumptions texts s its rows → its.state.clock + length rows ≤ MOST_CLOCKS
 
   -- the clocks of the state and of the stimulus are too many together, for this reason
@@ -116,18 +120,17 @@ module _ (design board : List ℕ) (given : Option (List ℕ)) (state stimulus :
 
   pub record ResumeStatuses (call : Call) : Type 0 where
     -- 1, 3, and 4 or 6, and a design, a board or a plan that is absent
-    pub planned : PlannedStatuses [] design board given call
+    pub planned : PlannedStatuses [] design board by call
     -- 11: exactly where the text of the state spells none of the design, or the clocks are too many together: over the
     -- stimulus that is held, and else over one that it may be
     pub no_state : (texts : ResumeTexts) (s : List ℕ) → resumptions.Hold call texts → Holds call stimulus s → call.status ≡ 11
         → IsRefusedFor vocabulary (λ reason. IsNoState texts reason ⊎ AreTooMany texts s reason) call
     pub no_state_over : (texts : ResumeTexts) → resumptions.Hold call texts → call.status ≡ 11
         → IsRefusedFor vocabulary (λ reason. IsNoState texts reason ⊎ MayBeTooMany call.before.shelf.told texts reason) call
-    pub no_state_comes : (texts : ResumeTexts) (b p : List ℕ) (reason : Reason) → HoldTexts [] design board given call texts.design b p → Holds call state texts.state
-        → HavePlan [] given texts.design b p → IsNoState texts reason
+    pub no_state_comes : (texts : ResumeTexts) (reason : Reason) → IsReadyPlan call texts → IsNoState texts reason
         → IsRefusedFor vocabulary (IsNoState texts) call ⊎ IsStopped vocabulary up_to_state call
-    pub too_many_come : (texts : ResumeTexts) (b p s : List ℕ) (its : Resumption) (rows : List (List Bool)) → HoldTexts [] design board given call texts.design b p
-        → Holds call state texts.state → Holds call stimulus s → HavePlan [] given texts.design b p → AreSpelled resumptions texts s its rows → MOST_CLOCKS < its.state.clock + length rows
+    pub too_many_come : (texts : ResumeTexts) (s : List ℕ) (its : Resumption) (rows : List (List Bool)) → IsReadyPlan call texts → Holds call stimulus s
+        → AreSpelled resumptions texts s its rows → MOST_CLOCKS < its.state.clock + length rows
         → IsRefusedFor vocabulary (AreTooMany texts s) call ⊎ IsStopped vocabulary its_files call
     -- 0, 5, 7, 8 and 9, and that it completes: the text is the trace of the design from the state on, whatever the plan is, and
     -- links carry the words of one plan of these files, or a part of them
@@ -135,11 +138,10 @@ module _ (design board : List ℕ) (given : Option (List ℕ)) (state stimulus :
     -- 0: each link has carried its script of one such plan
     pub on_links : (texts : ResumeTexts) (s : List ℕ) → resumptions.Hold call texts → Holds call stimulus s → call.status ≡ 0 → CarriesFrom texts s call
     -- it is done on such a plan alone
-    pub done_planned : (d b p : List ℕ) → HoldTexts [] design board given call d b p → call.status ≡ 0
-        → (plan : Plan) × IsTheirPlan [] given d b p plan
-    -- these aren't statuses of it
-    pub others : (call.status ≢ 2) × (call.status ≢ other_status given) × (call.status ≢ 10)
+    pub done_planned : (texts : PlanTexts) → HoldTexts [] design board by call texts → call.status ≡ 0 → (plan : Plan) × IsTheirPlan [] by texts plan
+    -- no other status comes
+    pub comes : HasStatus (plan_statuses by ++ 11 ∷ 5 ∷ []) call
     -- a state that is told to be absent is a read fault, unless memory runs out, or another file is refused before; and so is a
     -- stimulus
-    pub absent_state : IsAbsent call state → IsUnworked (1 ∷ 3 ∷ plan_status given ∷ []) call
-    pub absent_stimulus : IsAbsent call stimulus → IsUnworked (1 ∷ 3 ∷ plan_status given ∷ 11 ∷ []) call
+    pub absent_state : IsAbsent call state → IsUnworked (plan_statuses by) call
+    pub absent_stimulus : IsAbsent call stimulus → IsUnworked (plan_statuses by ++ 11 ∷ []) call

@@ -1,8 +1,8 @@
 -- What each status says of a command that reads a design and a stimulus, and writes a text of both: of a run, or of a grading.
-use Rattle.std.specs.Prelude.{◌≡◌, ◌≢◌, ◌⊎◌, ℕ, Bool, List, [], ◌∷◌}
+use Rattle.std.specs.Prelude.{◌≡◌, ℕ, Bool, List, [], ◌∷◌}
 use Rattle.vw_design.specs.Paths.{Word}
 use Rattle.vw_course.specs.Places.{Files}
-use Rattle.vw_course.specs.Statuses.{IsRefusedFor, IsStopped, Holds, IsAbsent, IsUnworked}
+use Rattle.vw_course.specs.Statuses.{IsAbsent, IsUnworked, HasStatus, FileStatuses}
 use Rattle.vw_front.specs.declared.named.NamedNetlist.{NamedNetlist}
 use Rattle.vw_front.specs.Designs.{WatchedDesign, IsWatchedDesignOf, IsNoDesign}
 use Rattle.vw_front.specs.NamedNetlists.{IsNamedNetlistOf}
@@ -10,7 +10,7 @@ use Rattle.vw_courses.specs.declared.vocabulary.File.TheVariants as files
 use Rattle.vw_courses.specs.Messages.{vocabulary, Call}
 use Rattle.vw_courses.specs.Kinds.{IsBadDesign}
 use Rattle.vw_courses.specs.Commands.{TextOver, Scripts, no_links, grading_of}
-use Rattle.vw_statuses.specs.TracedStatuses.{of_design, design_width, HoldTexts, TracedStatuses}
+use Rattle.vw_statuses.specs.TracedStatuses.{design_subject, design_width, HoldTexts, TracedStatuses}
 
 -- no link is used
 abbrev pub UsesNone : Scripts → Type 0
@@ -27,16 +27,12 @@ module _ (probes : List Word) {Thing : Type 0} (Spells : List ℕ → Thing → 
 
   pub record OverDesignStatuses (call : Call) : Type 0 where
     -- 1: exactly where the design text has a fault, or its design has one, or a probe finds no net, or there is a loop
-    pub no_design : (d : List ℕ) → Holds call design d → call.status ≡ 1
-        → IsRefusedFor vocabulary (IsBadDesign probes d) call
-    pub no_design_comes : (d : List ℕ) → Holds call design d → IsNoDesign probes d
-        → IsRefusedFor vocabulary (IsBadDesign probes d) call ⊎ IsStopped vocabulary its_design call
+    pub of_design : FileStatuses vocabulary its_design design [] 1 (IsBadDesign probes) (IsNoDesign probes) (λ its. Unit {0}) call
     -- 0, 5, 7, 8 and 9, and that it completes; nothing comes between the design and the stimulus, and no link is used
-    pub traced : TracedStatuses (of_design Spells width design) text stimulus its_files (HoldTexts (of_design Spells width design) text stimulus) UsesNone call
-    -- these aren't statuses of it
-    pub others : (call.status ≢ 2) × (call.status ≢ 3) × (call.status ≢ 4) × (call.status ≢ 6) × (call.status ≢ 10) × (call.status ≢ 11)
-    -- a file that is told to be absent is a read fault, unless memory runs out, or the design is refused before
-    pub absent_design : IsAbsent call design → IsStopped vocabulary its_design call
+    pub traced : TracedStatuses (design_subject Spells width design) text stimulus its_files (HoldTexts (design_subject Spells width design) text stimulus) UsesNone call
+    -- no other status comes
+    pub comes : HasStatus (1 ∷ 5 ∷ []) call
+    -- a stimulus that is told to be absent is a read fault, unless memory runs out, or the design is refused before
     pub absent_stimulus : IsAbsent call stimulus → IsUnworked (1 ∷ []) call
 
 -- a text of the run of a design, with the nets that probes find

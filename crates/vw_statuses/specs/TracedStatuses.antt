@@ -4,7 +4,7 @@ use Rattle.std.specs.Prelude.{◌≡◌, ◌⊎◌, ℕ, Bool, List, length, Err
 use Rattle.vw_design.specs.Paths.{Word}
 use Rattle.vw_design.specs.Clocks.{columns}
 use Rattle.vw_course.specs.Places.{Files}
-use Rattle.vw_course.specs.Statuses.{IsDone, IsRefusedFor, IsReadStop, IsWriteStop, IsMemoryStop, IsStopped, IsCarriedOut, Holds, CompletesAt, LeavesPart}
+use Rattle.vw_course.specs.Statuses.{IsRefusedFor, IsStopped, Holds, LeavesPart, EndStatuses}
 use Rattle.vw_front.specs.Designs.{WatchedDesign, IsWatchedDesignOf}
 use Rattle.vw_rows.specs.declared.fault.StimFault.{StimFault}
 use Rattle.vw_rows.specs.Stimulus.{stimulus_rows}
@@ -22,8 +22,8 @@ pub record Subject : Type 1 where
   pub width : Thing → ℕ
 
 -- what the text of a design gives
-abbrev pub of_design : {Thing : Type 0} → (List ℕ → Thing → Type 0) → (Thing → ℕ) → List ℕ → Subject
-of_design {Thing = Thing} Spells width design = record {
+abbrev pub design_subject : {Thing : Type 0} → (List ℕ → Thing → Type 0) → (Thing → ℕ) → List ℕ → Subject
+design_subject {Thing = Thing} Spells width design = record {
   Texts = List ℕ;
   Thing = Thing;
   Hold = λ call d. Holds call design d;
@@ -36,7 +36,7 @@ abbrev pub design_width : WatchedDesign → ℕ
 design_width watched = length (columns watched.design)
 
 abbrev pub designs : List Word → List ℕ → Subject
-designs probes design = of_design (IsWatchedDesignOf probes) design_width design
+designs probes design = design_subject (IsWatchedDesignOf probes) design_width design
 
 module _ (subject : Subject) where
   -- a stimulus text has this fault for the rows of such a thing
@@ -75,39 +75,36 @@ module _ (subject : Subject) where
     IsTraceOf its rows Uses did = (scripts : Scripts) × Uses scripts × (did ≡ tracing (text its) scripts rows)
 
     module _ (stimulus : List ℕ) where
-      -- the texts are held
+      -- the texts are held, those of the thing and that of the stimulus
       pub record HoldTexts (call : Call) (texts : subject.Texts) (s : List ℕ) : Type 0 where
         pub its_held : subject.Hold call texts
         pub stimulus_held : Holds call stimulus s
 
+      abbrev pub HoldBoth : Call → subject.Texts × List ℕ → Type 0
+      HoldBoth call both = HoldTexts call both.0 both.1
+
+      -- a thing and rows, of texts with which a command is ready
+      pub record Run : Type 0 where
+        pub texts : subject.Texts
+        pub s : List ℕ
+        pub its : subject.Thing
+        pub rows : List (List Bool)
+
+      pub record IsRun (IsReady : Call → subject.Texts → List ℕ → Type 0) (call : Call) (run : Run) : Type 0 where
+        pub ready : IsReady call run.texts run.s
+        pub are : AreSpelled run.texts run.s run.its run.rows
+
       -- of a command with these files. It is ready where these texts and all others are held, and all that comes between
       -- is accepted; and it uses links so
       pub record TracedStatuses (its_files : Files vocabulary) (IsReady : Call → subject.Texts → List ℕ → Type 0) (Uses : Scripts → Type 0) (call : Call) : Type 0 where
-        -- 0: the text of the thing over the rows of the stimulus, and nothing else changed
-        pub done : (texts : subject.Texts) (s : List ℕ) → HoldTexts call texts s → call.status ≡ 0 → IsDone (IsTrace texts s Uses) call
         -- 5: exactly where the stimulus text has a fault
         pub no_rows : (texts : subject.Texts) (s : List ℕ) → HoldTexts call texts s → call.status ≡ 5
             → IsRefusedFor vocabulary (IsBadRows texts s) call
         pub no_rows_comes : (texts : subject.Texts) (s : List ℕ) (its : subject.Thing) (fault : StimFault) → IsReady call texts s
             → subject.Spells texts its → HasRowFault s its fault
             → IsRefusedFor vocabulary (IsBadRows texts s) call ⊎ IsStopped vocabulary its_files call
-        -- 7: a fault was counted at one of the files, over every shelf; out has a part of some such text at most, and where
-        -- the texts are held, of the text
-        pub read_fault : call.status ≡ 7 → IsReadStop vocabulary (IsAnyTrace Uses) its_files call
-        pub read_fault_held : (texts : subject.Texts) (s : List ℕ) → HoldTexts call texts s → call.status ≡ 7
-            → IsReadStop vocabulary (IsTrace texts s Uses) its_files call
-        -- 8: a fault was counted at out, which has a part of the text
-        pub write_fault : (texts : subject.Texts) (s : List ℕ) → HoldTexts call texts s → call.status ≡ 8 → IsWriteStop (IsTrace texts s Uses) call
-        -- 9: out has a part of the text at most
-        pub want_of_memory : (texts : subject.Texts) (s : List ℕ) → HoldTexts call texts s → call.status ≡ 9
-            → IsMemoryStop (IsTrace texts s Uses) call
-        -- accepted texts are run, unless the outside stops the call; out has a part of the text, whatever the status
-        pub accepted : (texts : subject.Texts) (s : List ℕ) (its : subject.Thing) (rows : List (List Bool)) → IsReady call texts s
-            → AreSpelled texts s its rows
-            → IsCarriedOut vocabulary (IsTraceOf its rows Uses) its_files call
-        pub part : (texts : subject.Texts) (s : List ℕ) (its : subject.Thing) (rows : List (List Bool)) → IsReady call texts s
-            → AreSpelled texts s its rows
-            → LeavesPart (text its rows) call.before.out call.after.out
-        -- and where no count rose, they are run, unless memory runs out
-        pub complete : (texts : subject.Texts) (s : List ℕ) (its : subject.Thing) (rows : List (List Bool)) → IsReady call texts s
-            → AreSpelled texts s its rows → CompletesAt vocabulary its_files call
+        -- 0, 7, 8 and 9, and that it completes: the text of the thing over the rows of the stimulus; over every shelf a part of some
+        -- such text at most
+        pub ends : EndStatuses vocabulary its_files HoldBoth (λ both. IsTrace both.0 both.1 Uses) (IsAnyTrace Uses) (IsRun IsReady) (λ run. IsTraceOf run.its run.rows Uses) call
+        -- of accepted texts, out has a part of the text, whatever the status
+        pub part : (run : Run) → IsRun IsReady call run → LeavesPart (text run.its run.rows) call.before.out call.after.out

@@ -1,12 +1,13 @@
 //! Laws of the commands, as contracts of functions that do nothing.
-ghost use Rattle.std.specs.Prelude.{◌≡◌, ◌≤◌, ℕ, Bool, false, List, [], Option, length};
+ghost use Rattle.std.specs.Prelude.{◌≡◌, ◌≤◌, ℕ, Bool, false, List, [], length};
 ghost use Rattle.vw_words.specs.FirstWrong.{IsFirstWrong};
 ghost use Rattle.vw_words.specs.Matched.{first_wrong};
 ghost use Rattle.vw_design.specs.Paths.{Word};
 ghost use Rattle.vw_course.specs.Endings.{IsCallOf};
 ghost use Rattle.vw_course.specs.Statuses.{Holds, Statuses};
 ghost use Rattle.vw_courses.specs.Words.{Spelled, command_forms, help, spelled_by, uses_links, version};
-ghost use Rattle.vw_courses.specs.Commands.{check_course, course_of, demo_course, emit_course, grade_course, nets_course, plan_course, plan_for_course, resume_course, run_course, save_course, saved_of, sim_course, trace_of, usage_course, wave_course, wave_of};
+ghost use Rattle.vw_courses.specs.Commands.{check_course, course_of, demo_course, emit_course, grade_course, nets_course, plan_course, resume_course, run_course, save_course, saved_of, sim_course, trace_of, usage_course, wave_course, wave_of};
+ghost use Rattle.vw_courses.specs.MayPlan.{PlanBy};
 ghost use Rattle.vw_courses.specs.Messages.{Call};
 ghost use Rattle.vw_statuses.specs.Headline.{Headline, WritesTrace};
 ghost use Rattle.vw_statuses.specs.Promises.{Promise};
@@ -14,11 +15,9 @@ ghost use Rattle.vw_statuses.specs.WaveLaw.{WavesReplay};
 ghost use Rattle.vw_statuses.specs.UsageStatuses.{UsageStatuses};
 ghost use Rattle.vw_statuses.specs.SimStatuses.{GradeStatuses, SimStatuses};
 ghost use Rattle.vw_statuses.specs.NetsStatuses.{NetsStatuses};
-ghost use Rattle.vw_statuses.specs.CheckStatuses.{CheckStatuses};
 ghost use Rattle.vw_statuses.specs.EmittedBoards.{BoardsShow};
 ghost use Rattle.vw_statuses.specs.EmitStatuses.{EmitStatuses};
-ghost use Rattle.vw_statuses.specs.PlanStatuses.{PlanStatuses};
-ghost use Rattle.vw_statuses.specs.PlanForStatuses.{PlanForStatuses};
+ghost use Rattle.vw_statuses.specs.WrittenStatuses.{CheckStatuses, PlanStatuses};
 ghost use Rattle.vw_statuses.specs.RunStatuses.{RunStatuses};
 ghost use Rattle.vw_statuses.specs.Pieces.{PiecesJoin};
 ghost use Rattle.vw_statuses.specs.ResumeStatuses.{ResumeStatuses};
@@ -35,9 +34,9 @@ use vw_words::wrong_words_follow_the_longest_front;
 /// the texts of design and stimulus are held and the status of `run` is 0, out has exactly the trace of the unpartitioned
 /// design, with the nets that the probes find, over the rows of the stimulus.
 pub fn headline()
-    ensures followed { (probes : List Word) (design board stimulus : List ℕ) (given : Option (List ℕ))
+    ensures followed { (probes : List Word) (design board stimulus : List ℕ) (by : PlanBy)
         (workers : ℕ) (unknown : Bool)
-        (call : Call) → IsCallOf (run_course probes design board given stimulus workers unknown) call
+        (call : Call) → IsCallOf (run_course probes design board by stimulus workers unknown) call
         → (d s : List ℕ) → Holds call design d → Holds call stimulus s
         → call.status ≡ 0 → WritesTrace probes unknown d s call.before.out call.after.out }
     ensures spelled { (words : List (List ℕ)) (call : Call) → IsCallOf (course_of (spelled_by words)) call
@@ -101,19 +100,12 @@ pub fn check_statuses()
         → CheckStatuses probes design board plan call }
 {}
 
-/// What each status of `plan` says of its files, with 64 probes at most.
+/// What each status of `plan` says of its files, with 64 probes at most: after status 0, out has the text of a good plan, or, for
+/// given chips, that of a sound plan with exactly these.
 pub fn plan_statuses()
-    ensures { (probes : List Word) → length probes ≤ 64 → (design board : List ℕ) (call : Call)
-        → IsCallOf (plan_course probes design board) call
-        → PlanStatuses probes design board call }
-{}
-
-/// What each status of `plan` for given chips says of its files, with 64 probes at most: after status 0, out has the text of
-/// a sound plan with exactly these chips.
-pub fn plan_for_statuses()
-    ensures { (probes : List Word) → length probes ≤ 64 → (design board chips : List ℕ) (call : Call)
-        → IsCallOf (plan_for_course probes design board chips) call
-        → PlanForStatuses probes design board chips call }
+    ensures { (probes : List Word) → length probes ≤ 64 → (design board : List ℕ) (by : PlanBy) (call : Call)
+        → IsCallOf (plan_course probes design board by) call
+        → PlanStatuses probes design board by call }
 {}
 
 /// What each status of `run` says of its files, with 64 probes at most, where it is given a plan and where it makes one: after
@@ -121,27 +113,27 @@ pub fn plan_for_statuses()
 /// carried exactly its words of that plan.
 pub fn run_statuses()
     ensures { (probes : List Word) → length probes ≤ 64
-        → (design board stimulus : List ℕ) (given : Option (List ℕ)) (workers : ℕ) (unknown : Bool)
-        (call : Call) → IsCallOf (run_course probes design board given stimulus workers unknown) call
-        → RunStatuses probes (trace_of unknown) design board given stimulus workers unknown call }
+        → (design board stimulus : List ℕ) (by : PlanBy) (workers : ℕ) (unknown : Bool)
+        (call : Call) → IsCallOf (run_course probes design board by stimulus workers unknown) call
+        → RunStatuses probes (trace_of unknown) design board by stimulus workers unknown call }
 {}
 
 /// What each status of `save` says of its files, where it is given a plan and where it makes one: after status 0, out has the
 /// state of the unpartitioned design after all rows; with several workers each link has carried exactly its words.
 pub fn save_statuses()
-    ensures { (design board stimulus : List ℕ) (given : Option (List ℕ)) (workers : ℕ)
+    ensures { (design board stimulus : List ℕ) (by : PlanBy) (workers : ℕ)
         (unknown : Bool) (call : Call)
-        → IsCallOf (save_course design board given stimulus workers unknown) call
-        → RunStatuses [] (saved_of unknown) design board given stimulus workers unknown call }
+        → IsCallOf (save_course design board by stimulus workers unknown) call
+        → RunStatuses [] (saved_of unknown) design board by stimulus workers unknown call }
 {}
 
 /// What each status of `resume` says of its files, where it is given a plan and where it makes one: after status 0, out has the
 /// trace of the unpartitioned design from the state on; with several workers each link has carried exactly its words.
 pub fn resume_statuses()
-    ensures { (design board state stimulus : List ℕ) (given : Option (List ℕ)) (workers : ℕ)
+    ensures { (design board state stimulus : List ℕ) (by : PlanBy) (workers : ℕ)
         (call : Call)
-        → IsCallOf (resume_course design board given state stimulus workers) call
-        → ResumeStatuses design board given state stimulus workers call }
+        → IsCallOf (resume_course design board by state stimulus workers) call
+        → ResumeStatuses design board by state stimulus workers call }
 {}
 
 /// A run that is cut in pieces: what `run` writes of the first rows, joined line by line with what `resume` writes of the others
@@ -164,9 +156,9 @@ pub fn emitted_boards_show_designs()
 /// What each status of `emit` says of its files, where it is given a plan and where it makes one: after status 0, out
 /// has a design that runs and shows the design of the text.
 pub fn emit_statuses()
-    ensures { (design board : List ℕ) (given : Option (List ℕ)) (call : Call)
-        → IsCallOf (emit_course design board given) call
-        → EmitStatuses design board given call }
+    ensures { (design board : List ℕ) (by : PlanBy) (call : Call)
+        → IsCallOf (emit_course design board by) call
+        → EmitStatuses design board by call }
 {
     emitted_boards_show_designs();
 }

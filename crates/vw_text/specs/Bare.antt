@@ -15,5 +15,6 @@ without_comment line = before_first (λ b. b == 35) line
 abbrev pub trimmed : List ℕ → List ℕ
 trimmed line = take (length line - suffix_len is_blank line) line
 
+-- a line without its comment and without blanks at its ends
 abbrev pub bare : List ℕ → List ℕ
 bare line = trimmed (without_comment line)

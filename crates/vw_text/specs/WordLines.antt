@@ -21,5 +21,6 @@ word_line line = record { number = line.number; words = words_of line.bytes }
 abbrev pub word_lines_of : List Logical → List Line
 word_lines_of lines = filter (λ line. not (is_empty line.words)) (map word_line lines)
 
+-- the lines of a text that have words, as their words
 abbrev pub word_lines : List ℕ → List Line
 word_lines text = word_lines_of (logical_lines text)

@@ -1,4 +1,5 @@
-//! Lines, words and numbers of the texts that designs, boards, plans and stimuli are written in.
+//! Lines, words and numbers of the texts that designs, boards, plans and stimuli are written in. In the field: lexical
+//! analysis.
 #![tactic(auto)]
 
 mod bare;

@@ -9,7 +9,7 @@ use vw_outside::{
     ErrSink, FileShelf, Held, MemShelf, MemSink, OutSink, Shelf, Sink, TextRefused, put_all,
     read_text,
 };
-use vw_shown::name;
+use vw_samples::name;
 
 /// A path of this process under `/tmp`.
 fn path(rt: &HostRuntime, name: &str) -> Result<String, AllocError> {

@@ -5,7 +5,7 @@ use std::test::Fail;
 use vw_net::Rows;
 use vw_outside::{Failed, Name, Shelf};
 use vw_rows::{StimFault, Stimulus};
-use vw_shown::name;
+use vw_samples::name;
 
 /// A shelf that tells nothing, has one text under every name, gives at most so many bytes a read, and fails at one read.
 #[derive(Drop)]

@@ -2,7 +2,7 @@ use crate::same::{assert_number, assert_same};
 use std::alloc::{AllocError, Global};
 use std::process::Abort;
 use std::test::Fail;
-use vw_shown::{add_number, add_words, name};
+use vw_samples::{add_number, add_words, name};
 use vw_text::{Line, lines, number};
 
 /// Adds a line: its number and its words, and `|`.

@@ -8,7 +8,7 @@ use std::test::Fail;
 use vw_front::{NamedNetlist, named_netlist_of_text};
 use vw_outside::{MemSink, Name};
 use vw_rows::Stimulus;
-use vw_shown::name;
+use vw_samples::name;
 use vw_wave::write_wave;
 
 /// A latch that changes in each clock in which `en` is 1.

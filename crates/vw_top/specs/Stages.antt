@@ -1,5 +1,5 @@
 -- What the stages of commands make.
-use Rattle.std.specs.Prelude.{◌≡◌, ◌+◌, ◌≤◌, ◌<◌, ℕ, List, Option, IsTrue, Result, Ok, Err}
+use Rattle.std.specs.Prelude.{◌≡◌, ◌+◌, ◌≤◌, ◌<◌, ℕ, List, IsTrue, Result, Ok, Err}
 use Rattle.vw_net.specs.declared.ordered.Ordered.{Ordered}
 use Rattle.vw_design.specs.Paths.{Word}
 use Rattle.vw_outside.specs.Told.{Told, IsTextOf}
@@ -14,7 +14,7 @@ use Rattle.vw_plan.specs.declared.checked.Checked.{Checked}
 use Rattle.vw_plan.specs.PlannedBoard.{PlannedBoard}
 use Rattle.vw_plan.specs.Sound.{IsSound}
 use Rattle.std.specs.Global.{Vec}
-use Rattle.vw_boardtext.specs.Emitted.{FitsDesigns, emitted_text}
+use Rattle.vw_emit_text.specs.Emitted.{FitsDesigns, emitted_text}
 use Rattle.vw_resume.specs.declared.fault.StateFault.TheVariants.{TooManyClocks}
 use Rattle.vw_rows.specs.declared.limits.TheConstants.{MOST_CLOCKS}
 use Rattle.vw_trace.specs.declared.fault.RunFault.{RunFault}
@@ -24,7 +24,9 @@ use Rattle.vw_courses.specs.declared.vocabulary.File.TheVariants as files
 use Rattle.vw_courses.specs.declared.vocabulary.Reason.{Reason}
 use Rattle.vw_courses.specs.declared.vocabulary.Reason.TheVariants as reasons
 use Rattle.vw_courses.specs.Commands.{Rest}
-use Rattle.vw_courses.specs.MayPlan.{IsPlanBy, MaySpell}
+use Rattle.vw_courses.specs.MayPlan.{PlanBy, made_here, of_file, for_chips, IsPlanBy, MaySpell}
+use Rattle.vw_top.specs.declared.board_files.PlanBy.{PlanBy as FilesBy}
+use Rattle.vw_top.specs.declared.board_files.PlanBy.TheVariants.{Made, Given, Chips}
 
 -- the design, the board and the plan of the planned, which is sound
 pub record IsCheckedPlan (planned : PlannedBoard) (checked : Checked) : Type 0 where
@@ -65,21 +67,27 @@ EndsClocks before clocks (Err unfinished) =
 abbrev pub cut_there : Rest
 cut_there ordered board plan = cut
 
+-- by which plan a command goes, as its course has it
+abbrev pub by_of : FilesBy → PlanBy
+by_of Made = made_here
+by_of (Given plan) = of_file plan.now
+by_of (Chips chips) = for_chips chips.now
+
 -- this netlist on this board, with such a plan
-pub record IsPlanned (told : List ℕ → Told) (given : Option (List ℕ)) (ordered : Ordered) (board : Board) (checked : Checked) : Type 0 where
+pub record IsPlanned (told : List ℕ → Told) (by : PlanBy) (ordered : Ordered) (board : Board) (checked : Checked) : Type 0 where
   pub its_ordered : checked.ordered ≡ ordered
   pub its_board : checked.board ≡ board
-  pub plan : IsPlanBy told given ordered board checked.plan
+  pub plan : IsPlanBy told by ordered board checked.plan
 
 -- this netlist on the board of a text that the name may have
-pub record IsOnBoard (told : List ℕ → Told) (board : List ℕ) (given : Option (List ℕ)) (ordered : Ordered) (checked : Checked) : Type 0 where
+pub record IsOnBoard (told : List ℕ → Told) (board : List ℕ) (by : PlanBy) (ordered : Ordered) (checked : Checked) : Type 0 where
   pub its_ordered : checked.ordered ≡ ordered
   pub b : List ℕ
   pub board_of : IsTextOf (told board) b
   pub board_is : SpellsBoard b checked.board
-  pub plan : IsPlanBy told given ordered checked.board checked.plan
+  pub plan : IsPlanBy told by ordered checked.board checked.plan
 
 -- texts that the names may have spell what was made ready
-abbrev pub IsReadyBoard : List Word → (List ℕ → Told) → List ℕ → List ℕ → Option (List ℕ) → Checked → Type 0
-IsReadyBoard probes told design board given checked =
-    MaySpell probes design board given told checked.ordered checked.board checked.plan
+abbrev pub IsReadyBoard : List Word → (List ℕ → Told) → List ℕ → List ℕ → PlanBy → Checked → Type 0
+IsReadyBoard probes told design board by checked =
+    MaySpell probes design board by told checked.ordered checked.board checked.plan

@@ -1,10 +1,10 @@
 //! The command `check`.
-ghost use Rattle.std.specs.Option.{option_copied};
 ghost use Rattle.std.specs.Prelude.{◌≡◌, IfOk};
 ghost use Rattle.vw_course.specs.Goes.{Goes};
 ghost use Rattle.vw_outside.specs.Writes.{WritesOut};
 ghost use Rattle.vw_courses.specs.Commands.{ready_course, size_rest, sound_text};
 ghost use Rattle.vw_courses.specs.Messages.{vocabulary};
+ghost use Rattle.vw_top.specs.Stages.{by_of};
 
 use crate::board_files::BoardFiles;
 use crate::ready::ready_board;
@@ -42,7 +42,7 @@ pub fn check<S: Shelf, O: Sink>(
 ) -> Result<(), Unfinished>
     ensures { Goes S.seen O.seen vocabulary
         (ready_course files.now.probes.nets.now files.now.design.now files.now.board.now
-        (option_copied files.now.plan) size_rest)
+        (by_of files.now.plan) size_rest)
         outside.old outside.new result }
 {
     let checked = ready_board(alloc, files, outside.shelf)?;

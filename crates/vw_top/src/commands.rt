@@ -9,7 +9,7 @@ ghost use Rattle.vw_courses.specs.Messages.{vocabulary};
 ghost use Rattle.vw_courses.specs.Steps.Commands.{command_view};
 ghost use Rattle.vw_courses.specs.Words.{spelled_by, needs_runtime};
 
-use crate::board_files::BoardFiles;
+use crate::board_files::{BoardFiles, PlanBy};
 use crate::check::check;
 use crate::demo::{demo_by_one, demo_by_several};
 use crate::emit::emit;
@@ -83,7 +83,7 @@ fn carry_out<S: Shelf, O: Sink>(
                 design,
                 probes: Probes { nets: &probes },
                 board,
-                plan: Some(plan),
+                plan: PlanBy::Given(plan),
             };
             check(alloc, &files, outside)
         }
@@ -94,8 +94,13 @@ fn carry_out<S: Shelf, O: Sink>(
             probes,
         } => {
             let probes = probes_of(alloc, probes)?;
-            let probes = Probes { nets: &probes };
-            plan(alloc, design, probes, board, chips, outside)
+            let files = BoardFiles {
+                design,
+                probes: Probes { nets: &probes },
+                board,
+                plan: PlanBy::chips(chips),
+            };
+            plan(alloc, &files, outside)
         }
         Command::Run {
             design,
@@ -111,7 +116,7 @@ fn carry_out<S: Shelf, O: Sink>(
                 design,
                 probes: Probes { nets: &probes },
                 board,
-                plan,
+                plan: PlanBy::file(plan),
             };
             run_by_one(alloc, &files, stimulus, unknown, outside)
         }
@@ -124,7 +129,7 @@ fn carry_out<S: Shelf, O: Sink>(
                 design,
                 probes: Probes { nets: &[] },
                 board,
-                plan,
+                plan: PlanBy::file(plan),
             };
             emit(alloc, &files, outside)
         }
@@ -163,7 +168,7 @@ fn carry_out_together<R: Threads + Wait + Sync, S: Shelf, F: Fabric, G: BurstGat
                 design,
                 probes: Probes { nets: &probes },
                 board,
-                plan,
+                plan: PlanBy::file(plan),
             };
             run_by_several(alloc, &files, stimulus, workers, unknown, hands, outside)
         }
@@ -179,7 +184,7 @@ fn carry_out_together<R: Threads + Wait + Sync, S: Shelf, F: Fabric, G: BurstGat
                 design,
                 probes: Probes { nets: &[] },
                 board,
-                plan,
+                plan: PlanBy::file(plan),
             };
             save(alloc, &files, stimulus, workers, unknown, hands, outside)
         }
@@ -195,7 +200,7 @@ fn carry_out_together<R: Threads + Wait + Sync, S: Shelf, F: Fabric, G: BurstGat
                 design,
                 probes: Probes { nets: &[] },
                 board,
-                plan,
+                plan: PlanBy::file(plan),
             };
             resume(alloc, &files, state, stimulus, workers, hands, outside)
         }
@@ -327,10 +332,8 @@ pub fn alone<S: Shelf, O: Sink, E: Sink>(
 }
 
 /// Carries out the command that the words after the program's name spell, and gives the exit status. After each
-/// status but 0 one message line goes to `err`. What each status means, when it comes and what it leaves, the laws
-/// `headline`, `call_statuses`, `sim_statuses`, `wave_statuses`, `grade_statuses`, `nets_statuses`, `check_statuses`,
-/// `plan_statuses`, `plan_for_statuses`, `run_statuses`, `save_statuses`, `resume_statuses`, `emit_statuses`,
-/// `demo_statuses`, `help_statuses`, `version_statuses` and `usage_statuses` say.
+/// status but 0 one message line goes to `err`. What each status means, when it comes and what it leaves, `headline`,
+/// `call_statuses` and the law of each command, like `sim_statuses`, say.
 ///
 /// A run, a saving and a resumption with several workers have the nodes of the board in groups on threads of the runtime. The
 /// words between them go over links of the fabric, and each group passes the gate before each of its bursts. That such a run

@@ -1,5 +1,5 @@
 //! The command `demo`: a run of generated texts in memory, of whose trace a summary is written.
-ghost use Rattle.std.specs.Prelude.{◌≡◌, ◌<◌, ◌≤◌, [], ℕ, List, None, false, IfOk};
+ghost use Rattle.std.specs.Prelude.{◌≡◌, ◌<◌, ◌≤◌, [], ℕ, List, false, IfOk};
 ghost use Rattle.vw_course.specs.Goes.{Goes, GoesOver, IsFollowed, MovedFrom, Unmoved};
 ghost use Rattle.vw_course.specs.OnTexts.{EndsSummed};
 ghost use Rattle.vw_outside.specs.Memory.{seen_sink};
@@ -7,9 +7,10 @@ ghost use Rattle.vw_outside.specs.Sure.{seen_sure, sure_text};
 ghost use Rattle.vw_courses.specs.Commands.{demo_course, demo_run, run_course};
 ghost use Rattle.vw_courses.specs.Demo.{board_name, design_name, generated, stimulus_name};
 ghost use Rattle.vw_gen.specs.Summary.{summary};
+ghost use Rattle.vw_courses.specs.MayPlan.{made_here};
 ghost use Rattle.vw_courses.specs.Messages.{vocabulary};
 
-use crate::board_files::BoardFiles;
+use crate::board_files::{BoardFiles, PlanBy};
 use crate::hands::Hands;
 use crate::probes::Probes;
 use crate::run::{run_by_one, run_by_several};
@@ -95,13 +96,13 @@ fn run_alone<S: Shelf, O: Sink>(
     outside: &mut Outside<'_, '_, S, O>,
 ) -> Result<(), Unfinished>
     ensures { Goes S.seen O.seen vocabulary
-        (run_course [] design.now board.now None stimulus.now 1 false) outside.old outside.new result }
+        (run_course [] design.now board.now made_here stimulus.now 1 false) outside.old outside.new result }
 {
     let files = BoardFiles {
         design,
         probes: Probes { nets: &[] },
         board,
-        plan: None,
+        plan: PlanBy::Made,
     };
     run_by_one(alloc, &files, stimulus, false, outside)
 }
@@ -116,7 +117,7 @@ fn run_named_by_one(
     trace: &mut MemSink,
 ) -> Result<(), Unfinished>
     ensures { IsFollowed vocabulary Unmoved
-        (run_course [] design.now board.now None stimulus.now 1 false)
+        (run_course [] design.now board.now made_here stimulus.now 1 false)
         (seen_sure shelf.old.files.items) (seen_sink trace.old)
         (seen_sure shelf.new.files.items) (seen_sink trace.new) result }
 {
@@ -139,7 +140,7 @@ fn run_named_by_several<R: Threads + Wait + Sync, F: Fabric, G: BurstGate>(
     ensures fabric { hands.new.fabric.ghost_name ≡ hands.old.fabric.ghost_name }
     ensures goes { IsFollowed vocabulary
         (MovedFrom (F.carried hands.old.fabric.now) (F.carried hands.new.fabric.now))
-        (run_course [] design.now board.now None stimulus.now workers false)
+        (run_course [] design.now board.now made_here stimulus.now workers false)
         (seen_sure shelf.old.files.items) (seen_sink trace.old)
         (seen_sure shelf.new.files.items) (seen_sink trace.new) result }
 {
@@ -147,7 +148,7 @@ fn run_named_by_several<R: Threads + Wait + Sync, F: Fabric, G: BurstGate>(
         design,
         probes: Probes { nets: &[] },
         board,
-        plan: None,
+        plan: PlanBy::Made,
     };
     let mut inside = Outside { shelf, out: trace };
     run_by_several(alloc, &files, stimulus, workers, false, hands, &mut inside)

@@ -1,13 +1,12 @@
 //! The command `emit`.
-ghost use Rattle.std.specs.Option.{option_copied};
 ghost use Rattle.vw_course.specs.Goes.{Goes};
 ghost use Rattle.vw_course.specs.Stages.{EndsJudging};
-ghost use Rattle.vw_boardtext.specs.Emitted.{FitsDesigns, emitted_text};
+ghost use Rattle.vw_emit_text.specs.Emitted.{FitsDesigns, emitted_text};
 ghost use Rattle.vw_plan.specs.PlannedBoard.{planned_board};
 ghost use Rattle.vw_courses.specs.Commands.{emit_rest, ready_course};
 ghost use Rattle.vw_courses.specs.Kinds.{IsBadEmission};
 ghost use Rattle.vw_courses.specs.Messages.{vocabulary};
-ghost use Rattle.vw_top.specs.Stages.{IsEmitted};
+ghost use Rattle.vw_top.specs.Stages.{IsEmitted, by_of};
 
 use crate::board_files::BoardFiles;
 use crate::ready::ready_board;
@@ -52,7 +51,7 @@ pub fn emit<S: Shelf, O: Sink>(
 ) -> Result<(), Unfinished>
     ensures { Goes S.seen O.seen vocabulary
         (ready_course files.now.probes.nets.now files.now.design.now files.now.board.now
-        (option_copied files.now.plan) emit_rest)
+        (by_of files.now.plan) emit_rest)
         outside.old outside.new result }
 {
     let checked = ready_board(alloc, files, outside.shelf)?;

@@ -25,8 +25,7 @@ pub use commands::{alone, virtual_wires};
 pub use vw_courses::{File, Reason, Unfinished};
 pub use vw_statuses::{
     call_statuses, check_statuses, demo_statuses, emit_statuses, emitted_boards_show_designs,
-    grade_statuses, headline, help_statuses, nets_statuses, pieces_join, plan_for_statuses,
-    plan_statuses, promises, resume_statuses, run_statuses, save_statuses, sim_statuses,
-    unused_links_stay, usage_statuses, version_statuses, wave_statuses, waves_show_designs,
-    wrong_words_have_their_place,
+    grade_statuses, headline, help_statuses, nets_statuses, pieces_join, plan_statuses, promises,
+    resume_statuses, run_statuses, save_statuses, sim_statuses, unused_links_stay, usage_statuses,
+    version_statuses, wave_statuses, waves_show_designs, wrong_words_have_their_place,
 };

@@ -1,5 +1,4 @@
 //! The command `resume`.
-ghost use Rattle.std.specs.Option.{option_copied};
 ghost use Rattle.std.specs.Prelude.{◌≡◌, ◌≤◌, length};
 ghost use Rattle.vw_course.specs.Goes.{GoesOver, MovedFrom};
 ghost use Rattle.vw_course.specs.Stages.{EndsJudging};
@@ -9,7 +8,7 @@ ghost use Rattle.vw_resume.specs.Resumed.{without_state};
 ghost use Rattle.vw_rows.specs.declared.limits.TheConstants.{MOST_CLOCKS};
 ghost use Rattle.vw_courses.specs.Commands.{ready_course, resume_rest, state_course};
 ghost use Rattle.vw_courses.specs.Messages.{vocabulary};
-ghost use Rattle.vw_top.specs.Stages.{EndsClocks, run_answer};
+ghost use Rattle.vw_top.specs.Stages.{EndsClocks, by_of, run_answer};
 
 use crate::board_files::BoardFiles;
 use crate::files::{check_rows, read_state, run_answer};
@@ -139,7 +138,7 @@ pub fn resume<R: Threads + Wait + Sync, S: Shelf, F: Fabric, G: BurstGate, O: Si
     ensures goes { GoesOver S.seen O.seen vocabulary
         (MovedFrom (F.carried hands.old.fabric.now) (F.carried hands.new.fabric.now))
         (ready_course files.now.probes.nets.now files.now.design.now files.now.board.now
-        (option_copied files.now.plan) (resume_rest state.now stimulus.now workers))
+        (by_of files.now.plan) (resume_rest state.now stimulus.now workers))
         outside.old outside.new result }
 {
     let checked = ready_board(alloc, files, outside.shelf)?;

@@ -1,11 +1,10 @@
 //! The command `run`: with one worker in this thread, and with several on threads.
-ghost use Rattle.std.specs.Option.{option_copied};
 ghost use Rattle.std.specs.Prelude.{◌≡◌, ◌<◌, ◌≤◌, ℕ, length};
 ghost use Rattle.vw_course.specs.Goes.{Goes, GoesOver, MovedFrom};
 ghost use Rattle.vw_run.specs.Runs.{without_count};
 ghost use Rattle.vw_courses.specs.Commands.{board_course, netlist_trace, run_course};
 ghost use Rattle.vw_courses.specs.Messages.{vocabulary};
-ghost use Rattle.vw_top.specs.Stages.{run_answer};
+ghost use Rattle.vw_top.specs.Stages.{by_of, run_answer};
 
 use crate::board_files::BoardFiles;
 use crate::files::{check_rows, run_answer};
@@ -111,7 +110,7 @@ pub fn run_by_one<S: Shelf, O: Sink>(
 ) -> Result<(), Unfinished>
     ensures { (workers : ℕ) → workers ≤ 1 → Goes S.seen O.seen vocabulary
         (run_course files.now.probes.nets.now files.now.design.now files.now.board.now
-        (option_copied files.now.plan) stimulus.now workers unknown)
+        (by_of files.now.plan) stimulus.now workers unknown)
         outside.old outside.new result }
 {
     let checked = ready_board(alloc, files, outside.shelf)?;
@@ -134,7 +133,7 @@ pub fn run_by_several<R: Threads + Wait + Sync, S: Shelf, F: Fabric, G: BurstGat
     ensures goes { GoesOver S.seen O.seen vocabulary
         (MovedFrom (F.carried hands.old.fabric.now) (F.carried hands.new.fabric.now))
         (run_course files.now.probes.nets.now files.now.design.now files.now.board.now
-        (option_copied files.now.plan) stimulus.now workers unknown)
+        (by_of files.now.plan) stimulus.now workers unknown)
         outside.old outside.new result }
 {
     let checked = ready_board(alloc, files, outside.shelf)?;

@@ -1,9 +1,9 @@
 //! The command `save`.
-ghost use Rattle.std.specs.Option.{option_copied};
 ghost use Rattle.std.specs.Prelude.{◌≡◌};
 ghost use Rattle.vw_course.specs.Goes.{GoesOver, MovedFrom};
 ghost use Rattle.vw_courses.specs.Commands.{board_course, netlist_state, over_rows_course};
 ghost use Rattle.vw_courses.specs.Messages.{vocabulary};
+ghost use Rattle.vw_top.specs.Stages.{by_of};
 
 use crate::board_files::BoardFiles;
 use crate::files::{check_rows, run_answer};
@@ -69,7 +69,7 @@ pub fn save<R: Threads + Wait + Sync, S: Shelf, F: Fabric, G: BurstGate, O: Sink
     ensures goes { GoesOver S.seen O.seen vocabulary
         (MovedFrom (F.carried hands.old.fabric.now) (F.carried hands.new.fabric.now))
         (over_rows_course files.now.probes.nets.now files.now.design.now files.now.board.now
-        (option_copied files.now.plan) stimulus.now (netlist_state unknown) workers unknown)
+        (by_of files.now.plan) stimulus.now (netlist_state unknown) workers unknown)
         outside.old outside.new result }
 {
     let checked = ready_board(alloc, files, outside.shelf)?;

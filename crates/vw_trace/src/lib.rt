@@ -1,5 +1,5 @@
-//! Traces of netlists, and other texts over their clocks, whatever works these out: a simulator that lies here, or an engine
-//! above.
+//! Traces of netlists, and other texts over their clocks, whatever works these out: a simulator that lies here, or an
+//! engine above. In the field: simulation traces.
 #![tactic(auto)]
 
 mod batch;

@@ -10,6 +10,7 @@ pub data Value : Type 0 where
   name : Value
   number : (least most : ℕ) → Value
 
+-- whether a text is a value of this kind
 abbrev pub is_value_of : Value → List ℕ → Bool
 is_value_of bit text = bytes_eq text (codes "0") || bytes_eq text (codes "1")
 is_value_of name text = not (length text == 0)
@@ -20,6 +21,7 @@ pub data Place : Type 0 where
   keyword : List ℕ → Place
   any : Value → Place
 
+-- whether a word suits a place
 abbrev pub suits : Place → List ℕ → Bool
 suits (keyword wanted) word = bytes_eq word wanted
 suits (any value) word = is_value_of value word
@@ -39,6 +41,7 @@ abbrev pub given : Setting → List ℕ → Option (List ℕ)
 given setting word =
     option_and_then (λ text. if is_value_of setting.value text then Some text else None) (option_and_then (behind_front (codes "=")) (behind_front setting.name word))
 
+-- whether a word gives a setting a value
 abbrev pub gives : Setting → List ℕ → Bool
 gives setting word = is_some (given setting word)
 

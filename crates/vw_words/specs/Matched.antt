@@ -19,6 +19,7 @@ matched [] settings words = matched_settings settings [] words
 matched (place ∷ places) settings [] = zero
 matched (place ∷ places) settings (word ∷ words) = if suits place word then suc (matched places settings words) else zero
 
+-- how many words match a form, from the first on
 abbrev pub matched_by : Form → List (List ℕ) → ℕ
 matched_by form words = matched form.places form.settings words
 

@@ -1,4 +1,5 @@
-//! The words of a command line, matched against a table of forms, and the values of settings among them.
+//! The words of a command line, matched against a table of forms, and the values of settings among them. In the field:
+//! command lines parsed by a grammar.
 #![tactic(auto)]
 
 mod form;

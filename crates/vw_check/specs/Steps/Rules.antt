@@ -8,7 +8,7 @@ use Rattle.vw_plan.specs.declared.wire.Wire.{Wire}
 use Rattle.vw_plan.specs.PlannedBoard.{PlannedBoard, home}
 use Rattle.vw_plan.specs.Lead.{arrival}
 use Rattle.vw_plan.specs.Sound.{has_pin}
-use Rattle.vw_leads.specs.Links.{joins}
+use Rattle.vw_ready.specs.Links.{joins}
 use Rattle.vw_check.specs.declared.fault.PlanFault.{PlanFault}
 use Rattle.vw_check.specs.declared.fault.PlanFault.TheVariants.{BrokenRoute, BadPin, OutOfOrder, PastPeriod}
 use Rattle.vw_check.specs.declared.hops.Rule.{Rule}

@@ -7,7 +7,7 @@ use Rattle.vw_plan.specs.declared.wire.Wire.{Wire}
 use Rattle.vw_check.specs.declared.fault.PlanFault.{PlanFault}
 use Rattle.vw_check.specs.declared.fault.PlanFault.TheVariants.{MissingWire, ExtraWire}
 use Rattle.vw_net.specs.FirstFound.{first_at, found_if, found_unless}
-use Rattle.vw_leads.specs.Pairs.{pair_in}
+use Rattle.vw_ready.specs.Pairs.{pair_in}
 
 abbrev pub first_missing : {S : Type 0} → hash.HashMap (ℕ × ℕ) ℕ S → List Need → Option PlanFault
 first_missing wires needs = first_at (λ _ need. found_unless (is_some (pair_in wires need.net need.to)) (MissingWire need.net need.to)) 0 needs

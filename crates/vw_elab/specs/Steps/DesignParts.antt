@@ -4,8 +4,8 @@ use Rattle.vw_design.specs.Accepted.{IsAccepted}
 use Rattle.vw_instances.specs.Tables.{AreCellSites}
 use Rattle.vw_drivers.specs.Tables.{AreDesignTables, root_firsts}
 use Rattle.vw_drivers.specs.Drivers.{AreDrivers}
-use Rattle.vw_nets.specs.declared.columns.Columns.{Columns}
-use Rattle.vw_nets.specs.Columns.{AreColumns}
+use Rattle.vw_net_faults.specs.declared.columns.Columns.{Columns}
+use Rattle.vw_net_faults.specs.Columns.{AreColumns}
 use Rattle.vw_elab.specs.declared.parts.NumberedParts.{NumberedParts}
 
 -- instances, cells and drivers by numbers

@@ -81,7 +81,7 @@ module _ (design stimulus out err : List ℕ) (call : Call) (hold : HoldTexts (d
 
   done : call.status ≡ 0 → IsSimulated design stimulus out err
   done is =
-      let done = table.traced.done design stimulus hold is in
+      let done = table.traced.ends.done (design, stimulus) hold is in
       let trace = done.is in
       let told : Some err ≡ Some [] = ap (λ (sink : SeenSink). sink.told) (sym said ∙ done.silent ∙ unsaid) in
       record {
@@ -95,7 +95,7 @@ module _ (design stimulus out err : List ℕ) (call : Call) (hold : HoldTexts (d
 
   bad_design : call.status ≡ 1 → HasBadDesign design out err
   bad_design is =
-      let refused = table.no_design design hold.its_held is in
+      let refused = table.of_design.bad design hold.its_held is in
       record { reason = refused.reason; refused = refused.why; no_trace = no_trace refused.leaves; message = line_is (reason_line refused.reason) refused.message }
 
   bad_rows : call.status ≡ 5 → HasBadRows design stimulus out err
@@ -116,10 +116,9 @@ module _ (design stimulus out err : List ℕ) (call : Call) (hold : HoldTexts (d
     done = done;
     no_design = bad_design;
     no_rows = bad_rows;
-    others = (table.others.0, table.others.1, table.others.2, table.others.3);
-    known = omega (arith, all.known, table.others.4, table.others.5);
+    comes = table.comes;
     part = λ spelled rows is read.
-        front_of_text call.before.out call.after.out (trace_of false spelled rows) out none some (table.traced.part design stimulus spelled rows hold (record { spells = is; rows_are = read }));
+        front_of_text call.before.out call.after.out (trace_of false spelled rows) out none some (table.traced.part (record { texts = design; s = stimulus; its = spelled; rows = rows }) (record { ready = hold; are = record { spells = is; rows_are = read } }));
   }
 
 pub returns : goal.returns

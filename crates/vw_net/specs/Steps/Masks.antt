@@ -34,6 +34,7 @@ marks_of (suc inputs) looked wanted = mark_of (looked % 2 == 1) (wanted % 2 == 1
 abbrev pub row_of : ℕ → Masks → Row
 row_of inputs masks = record { marks = marks_of inputs masks.looked masks.wanted }
 
+-- the rows that a list of masks is kept for
 abbrev pub rows_of : ℕ → List Masks → List Row
 rows_of inputs list = map (row_of inputs) list
 

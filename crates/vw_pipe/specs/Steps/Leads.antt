@@ -6,7 +6,7 @@ use Rattle.vw_plan.specs.declared.need.Route.{Route}
 use Rattle.vw_plan.specs.declared.wire.Hop.{Hop}
 use Rattle.vw_plan.specs.declared.wire.Wire.{Wire}
 use Rattle.vw_plan.specs.Lead.{after_last}
-use Rattle.vw_leads.specs.Leads as by_table
+use Rattle.vw_ready.specs.Leads as by_table
 
 -- the pairs of a net and a node that some routes are for
 abbrev pub route_pairs : List Route → List (ℕ × ℕ)

@@ -2,7 +2,7 @@ use Rattle.std.proofs.Common.{◌≡◌, ◌∙◌, Option, Some, None, ap, ap�
 use Rattle.std.specs.Option.{option_or}
 use Rattle.vw_net.proofs.FirstOptions.{or_nothing}
 use Rattle.vw_plan.specs.PlannedBoard.{PlannedBoard}
-use Rattle.vw_leads.specs.LeadTables.{planned_in}
+use Rattle.vw_ready.specs.LeadTables.{planned_in}
 use Rattle.vw_check.specs.declared.fault.PlanFault.{PlanFault}
 use Rattle.vw_check.specs.Faults.{hop_fault}
 use Rattle.vw_check.specs.HopFaults.{bad_pin, broken_route, out_of_order, past_period, pin_clash}

@@ -6,13 +6,13 @@ use Rattle.vw_plan.specs.PlannedBoard.{PlannedBoard}
 use Rattle.vw_check.specs.declared.fault.PlanFault.{PlanFault}
 use Rattle.vw_check.specs.Faults.{microcycle_fault}
 use Rattle.vw_check.specs.MicrocycleFaults.{late_latch, too_early}
-use Rattle.vw_leads.specs.LeadTables.{AreArrivals, AreLeads, planned_in}
+use Rattle.vw_ready.specs.LeadTables.{AreArrivals, AreLeads, planned_in}
 use Rattle.vw_plan.specs.Lead.{usable}
 use Rattle.vw_plan.proofs.LeadLevels.{lead-by_driver}
-use Rattle.vw_leads.specs.Leads.{arrival_by, usable_by}
-use Rattle.vw_leads.specs.declared.wired.Wired.{Wired}
-use Rattle.vw_leads.proofs.HomeLeads.{microcycles_right}
-use Rattle.vw_leads.proofs.WiresBrought.{brought_by}
+use Rattle.vw_ready.specs.Leads.{arrival_by, usable_by}
+use Rattle.vw_ready.specs.declared.wired.Wired.{Wired}
+use Rattle.vw_ready.proofs.HomeLeads.{microcycles_right}
+use Rattle.vw_ready.proofs.WiresBrought.{brought_by}
 use Rattle.vw_check.proofs.checker.microcycle_fault.Goals as goal
 
 early_or_late : (planned : PlannedBoard) (early late : Option PlanFault) → early ≡ too_early planned → late ≡ late_latch planned → option_or early late ≡ microcycle_fault planned

@@ -1,5 +1,5 @@
 use Rattle.std.proofs.Common.{◌∙◌, ap, sym}
-use Rattle.vw_leads.specs.LeadTables.{planned_in}
+use Rattle.vw_ready.specs.LeadTables.{planned_in}
 use Rattle.vw_check.specs.HopFaults.{broken_wire}
 use Rattle.vw_net.proofs.FirstFound.{search_finds, search_passes}
 use Rattle.vw_check.proofs.hops.broken_route.Goals as goal

@@ -1,6 +1,6 @@
 -- the first broken route is the first of the rest
 use Rattle.std.proofs.Common.{◌≡◌, drop}
-use Rattle.vw_leads.specs.LeadTables.{planned_in}
+use Rattle.vw_ready.specs.LeadTables.{planned_in}
 use Rattle.vw_net.specs.FirstFound.{first_at}
 use Rattle.vw_check.specs.HopFaults.{broken_route, broken_wire}
 use Rattle.vw_check.proofs.hops.broken_route.Given as goal

@@ -1,7 +1,7 @@
 -- the first fault is the first of the rest
 use Rattle.std.proofs.Common.{◌≡◌, drop}
 use Rattle.vw_plan.specs.PlannedBoard.{home}
-use Rattle.vw_leads.specs.LeadTables.{planned_in}
+use Rattle.vw_ready.specs.LeadTables.{planned_in}
 use Rattle.vw_net.specs.FirstFound.{first_at}
 use Rattle.vw_check.specs.Steps.Rules.{first_breaking, first_in_wire}
 use Rattle.vw_check.proofs.hops.first_breaking.Given as goal

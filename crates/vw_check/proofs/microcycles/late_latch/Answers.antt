@@ -8,7 +8,7 @@ use Rattle.vw_net.proofs.FittingCells.{cell_fits}
 use Rattle.vw_plan.specs.Lead.{usable}
 use Rattle.vw_plan.specs.Nets.{node_of}
 use Rattle.vw_plan.specs.PlannedBoard.{PlannedBoard, home}
-use Rattle.vw_leads.specs.LeadTables.{planned_in}
+use Rattle.vw_ready.specs.LeadTables.{planned_in}
 use Rattle.vw_net.specs.FirstFound.{found_unless}
 use Rattle.vw_check.specs.MicrocycleFaults.{late_cell, latch_microcycle}
 use Rattle.vw_check.specs.declared.fault.PlanFault.TheVariants.{LateLatch}

@@ -1,6 +1,6 @@
 -- the first late latch is the first of the rest
 use Rattle.std.proofs.Common.{◌≡◌, drop}
-use Rattle.vw_leads.specs.LeadTables.{planned_in}
+use Rattle.vw_ready.specs.LeadTables.{planned_in}
 use Rattle.vw_net.specs.FirstFound.{first_at}
 use Rattle.vw_check.specs.MicrocycleFaults.{late_cell, late_latch}
 use Rattle.vw_check.proofs.microcycles.late_latch.Given as goal

@@ -6,7 +6,7 @@ use Rattle.vw_net.specs.declared.flat.Flat.{Flat}
 use Rattle.vw_plan.specs.Lead.{usable}
 use Rattle.vw_plan.specs.Nets.{node_of}
 use Rattle.vw_plan.specs.PlannedBoard.{PlannedBoard}
-use Rattle.vw_leads.specs.LeadTables.{planned_in}
+use Rattle.vw_ready.specs.LeadTables.{planned_in}
 use Rattle.vw_plan.specs.declared.wire.Hop.{Hop}
 use Rattle.vw_plan.specs.declared.wire.Wire.{Wire}
 use Rattle.vw_net.specs.FirstFound.{found_unless}

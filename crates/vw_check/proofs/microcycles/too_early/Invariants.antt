@@ -1,6 +1,6 @@
 -- the first wire that is sent too early is the first of the rest
 use Rattle.std.proofs.Common.{◌≡◌, drop}
-use Rattle.vw_leads.specs.LeadTables.{planned_in}
+use Rattle.vw_ready.specs.LeadTables.{planned_in}
 use Rattle.vw_net.specs.FirstFound.{first_at}
 use Rattle.vw_check.specs.MicrocycleFaults.{early_wire, too_early}
 use Rattle.vw_check.proofs.microcycles.too_early.Given as goal

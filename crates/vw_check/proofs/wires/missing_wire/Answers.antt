@@ -1,7 +1,7 @@
 use Rattle.std.proofs.Common.{◌∙◌, ℕ, Bool, Some, get_or, is_some, ap, ap₂, sym}
 use Rattle.vw_plan.specs.declared.need.Need.{Need}
 use Rattle.vw_net.specs.FirstFound.{found_unless}
-use Rattle.vw_leads.specs.Pairs.{pair_in}
+use Rattle.vw_ready.specs.Pairs.{pair_in}
 use Rattle.vw_check.specs.declared.fault.PlanFault.TheVariants.{MissingWire}
 use Rattle.vw_net.proofs.FirstFound.{search_ends, search_on}
 use Rattle.vw_check.proofs.wires.missing_wire.Goals as goal

@@ -2,7 +2,7 @@
 use Rattle.std.proofs.Common.{◌≡◌, drop, is_some}
 use Rattle.vw_check.specs.declared.fault.PlanFault.TheVariants.{MissingWire}
 use Rattle.vw_net.specs.FirstFound.{first_at, found_unless}
-use Rattle.vw_leads.specs.Pairs.{pair_in}
+use Rattle.vw_ready.specs.Pairs.{pair_in}
 use Rattle.vw_check.specs.Steps.Wires.{first_missing}
 use Rattle.vw_check.proofs.wires.missing_wire.Given as goal
 

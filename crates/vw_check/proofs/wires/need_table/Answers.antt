@@ -1,8 +1,8 @@
 use Rattle.std.proofs.Common.{◌∙◌, ℕ, List, subst, IfOk, arith}
 use Rattle.vw_net.proofs.GatheredLists.{mapped_more}
 use Rattle.vw_plan.specs.declared.need.Need.{Need}
-use Rattle.vw_leads.specs.Pairs.{HasPairs}
-use Rattle.vw_leads.proofs.PushedElements.{all_pushed, same_pair}
+use Rattle.vw_ready.specs.Pairs.{HasPairs}
+use Rattle.vw_ready.proofs.PushedElements.{all_pushed, same_pair}
 use Rattle.vw_check.proofs.wires.need_table.Goals as goal
 
 -- the pairs are those of all of them

@@ -1,6 +1,6 @@
 use Rattle.std.proofs.Common.{◌≡◌, None, refl, sym, ◌∙◌}
 use Rattle.vw_design.specs.Paths.{Word, printed}
-use Rattle.vw_nets.specs.declared.nets.Pair.{Pair}
+use Rattle.vw_net_faults.specs.declared.nets.Pair.{Pair}
 use Rattle.vw_design.specs.NetFaults.{Unlike, Edged, gated_clock, several_clocks, several_edges, clock_as_data}
 use Rattle.vw_design.specs.Accepted.{clock_gated, clocks_differ, edges_differ, clock_read}
 use Rattle.vw_elab.proofs.FurtherFaults.{nothing_found, printed_is, unlike_ports_are, latches_are, by_parts, of_nets}

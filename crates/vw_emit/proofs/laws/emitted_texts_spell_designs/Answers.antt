@@ -1,5 +1,5 @@
 use Rattle.std.proofs.Common.{[]}
-use Rattle.vw_boardtext.specs.Emitted.{emitted_text}
+use Rattle.vw_emit_text.specs.Emitted.{emitted_text}
 use Rattle.vw_front.specs.Designs.{design_apart, spells_once}
 use Rattle.vw_emit.proofs.laws.emitted_texts_spell_designs.Goals as goal
 

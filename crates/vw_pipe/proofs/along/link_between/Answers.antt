@@ -1,6 +1,6 @@
 use Rattle.std.proofs.Common.{◌≡◌, ◌∙◌, List, Some, None, ap, sym}
 use Rattle.vw_plan.specs.declared.link.Link.{Link}
-use Rattle.vw_leads.specs.Links.{link_number}
+use Rattle.vw_ready.specs.Links.{link_number}
 use Rattle.vw_pipe.specs.Steps.SentHops.{link_place}
 use Rattle.vw_pipe.proofs.LinkPlaces.{number_there}
 use Rattle.vw_pipe.proofs.along.link_between.Goals as goal

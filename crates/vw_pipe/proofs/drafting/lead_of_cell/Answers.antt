@@ -1,6 +1,6 @@
 use Rattle.std.proofs.Common.{◌∙◌, ℕ, List, length, slice_get, slice_index, ap, ap₂}
 use Rattle.vw_plan.specs.Nets.{greatest_read}
-use Rattle.vw_leads.specs.Leads as by_table
+use Rattle.vw_ready.specs.Leads as by_table
 use Rattle.vw_pipe.proofs.KnownMicrocycles.{arrivals_low, arrived_so_far, leads_low}
 use Rattle.vw_pipe.proofs.drafting.lead_of_cell.Goals as goal
 

@@ -1,5 +1,5 @@
 use Rattle.std.proofs.Common.{◌∙◌, ℕ, List, length, ap, ap₂}
-use Rattle.vw_leads.specs.Leads as by_table
+use Rattle.vw_ready.specs.Leads as by_table
 use Rattle.vw_pipe.proofs.KnownMicrocycles.{arrivals_low, arrived_so_far, leads_low}
 use Rattle.vw_pipe.proofs.drafting.usable_at.Goals as goal
 

@@ -1,7 +1,7 @@
 use Rattle.std.proofs.Common.{◌∙◌, ℕ, List, subst, IfOk, arith}
 use Rattle.vw_plan.specs.declared.need.Route.{Route}
-use Rattle.vw_leads.specs.Pairs.{HasPairs}
-use Rattle.vw_leads.proofs.PushedElements.{all_pushed}
+use Rattle.vw_ready.specs.Pairs.{HasPairs}
+use Rattle.vw_ready.proofs.PushedElements.{all_pushed}
 use Rattle.vw_pipe.proofs.planning.route_table.Goals as goal
 
 -- the pairs are those of all of them

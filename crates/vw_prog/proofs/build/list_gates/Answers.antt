@@ -5,7 +5,7 @@ use Rattle.vw_net.proofs.Orders.{length-order}
 use Rattle.vw_plan.specs.PlannedBoard.{PlannedBoard, home}
 use Rattle.vw_net.specs.declared.flat.Flat.{Flat}
 use Rattle.vw_plan.specs.Lead.{lead}
-use Rattle.vw_leads.specs.LeadTables.{AreLeads, planned_in}
+use Rattle.vw_ready.specs.LeadTables.{AreLeads, planned_in}
 use Rattle.vw_prog.specs.declared.entry.Entry.{Entry}
 use Rattle.vw_prog.specs.Steps.{gate_entry_of}
 use Rattle.vw_prog.specs.Timetable.{gate_entries}

@@ -1,6 +1,6 @@
 -- the entries of the gates so far, and those of the rest
 use Rattle.std.proofs.Common.{◌≡◌, ◌++◌, drop}
-use Rattle.vw_leads.specs.LeadTables.{planned_in}
+use Rattle.vw_ready.specs.LeadTables.{planned_in}
 use Rattle.vw_prog.specs.Timetable.{gate_entries}
 use Rattle.vw_prog.proofs.build.list_gates.Given as goal
 

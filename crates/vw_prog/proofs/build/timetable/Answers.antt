@@ -6,8 +6,8 @@ use Rattle.vw_plan.specs.declared.plan.Plan.{Plan}
 use Rattle.vw_plan.specs.declared.wire.Wire.{Wire}
 use Rattle.vw_plan.specs.PlannedBoard.{PlannedBoard, planned_board}
 use Rattle.vw_plan.specs.Sound.{IsSound}
-use Rattle.vw_leads.specs.Pairs.{HasPairs}
-use Rattle.vw_leads.specs.Wires.{wire_pairs}
+use Rattle.vw_ready.specs.Pairs.{HasPairs}
+use Rattle.vw_ready.specs.Wires.{wire_pairs}
 use Rattle.vw_net.specs.Sorting.{sorted}
 use Rattle.vw_prog.specs.Timetable.{comes_before, entries, timetable}
 use Rattle.vw_prog.proofs.EntryOrder.{is_order, same_entry}

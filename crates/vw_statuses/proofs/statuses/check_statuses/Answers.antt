@@ -1,4 +1,4 @@
-use Rattle.vw_statuses.proofs.CheckLaws.{check_table}
+use Rattle.vw_statuses.proofs.WrittenLaws.{check_table}
 use Rattle.vw_statuses.proofs.statuses.check_statuses.Goals as goal
 
 pub returns : goal.returns

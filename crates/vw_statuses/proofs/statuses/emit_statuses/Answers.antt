@@ -2,4 +2,4 @@ use Rattle.vw_statuses.proofs.EmitLaws.{emit_table}
 use Rattle.vw_statuses.proofs.statuses.emit_statuses.Goals as goal
 
 pub returns : goal.returns
-returns c = λ design board given call is. emit_table design board given call c.emitted_boards_show_designs.ensures is
+returns c = λ design board by call is. emit_table design board by call c.emitted_boards_show_designs.ensures is

@@ -1,5 +1,5 @@
-use Rattle.vw_statuses.proofs.PlanLaws.{plan_table}
+use Rattle.vw_statuses.proofs.WrittenLaws.{plan_table}
 use Rattle.vw_statuses.proofs.statuses.plan_statuses.Goals as goal
 
 pub returns : goal.returns
-returns c = λ probes few design board call. plan_table probes design board call few
+returns c = λ probes few design board by call. plan_table probes design board by call few

@@ -2,7 +2,8 @@ use Rattle.std.proofs.Common.{◌≡◌, ◌≤◌, ℕ, List, take, sym, ◌∙
 use Rattle.std.proofs.lemmas.Bool.{ltb-false}
 use Rattle.std.specs.Option.{option_copied}
 use Rattle.vw_course.specs.Goes.{Goes}
-use Rattle.vw_courses.specs.Commands.{course_of}
+use Rattle.vw_courses.specs.Commands.{course_of, run_course}
+use Rattle.vw_courses.specs.MayPlan.{PlanBy}
 use Rattle.vw_courses.specs.Messages.{vocabulary}
 use Rattle.vw_courses.specs.Steps.Commands.{command_view}
 use Rattle.vw_courses.specs.Words.{Spelled, needs_runtime}
@@ -27,4 +28,5 @@ returns-in_ok-probes-in-Run g c =
     let is : command_view c.args.command ≡ spells (take MOST_PROBES run.probes) = ap command_view run.is in
     let few : run.workers ≤ 1 = ltb-false 1 run.workers (sym (ap needs_runtime is) ∙ c.requires) in
     subst (λ (spelled : Spelled). Goes g.S.Shelf.seen g.O.Sink.seen vocabulary (course_of spelled) c.args.outside.now c.run_by_one.new.outside c.run_by_one.result) (sym (is ∙ ap spells (sym probes)))
-    (c.run_by_one.ensures run.workers few)
+    (subst (λ (by : PlanBy). Goes g.S.Shelf.seen g.O.Sink.seen vocabulary (run_course c.deref-in-Run.result.now run.design.now run.board.now by run.stimulus.now run.workers run.unknown) c.args.outside.now c.run_by_one.new.outside c.run_by_one.result) c.file.ensures
+    (c.run_by_one.ensures run.workers few))

@@ -1,7 +1,8 @@
 use Rattle.std.proofs.Common.{◌≡◌, ℕ, List, take, sym, ◌∙◌, ap, subst}
 use Rattle.std.specs.Option.{option_copied}
 use Rattle.vw_course.specs.Goes.{GoesOver, MovedFrom}
-use Rattle.vw_courses.specs.Commands.{course_of}
+use Rattle.vw_courses.specs.Commands.{course_of, resume_course, run_course, save_course}
+use Rattle.vw_courses.specs.MayPlan.{PlanBy}
 use Rattle.vw_courses.specs.Messages.{vocabulary}
 use Rattle.vw_courses.specs.Steps.Commands.{command_view}
 use Rattle.vw_courses.specs.Words.{Spelled}
@@ -33,7 +34,8 @@ returns-in_ok-probes-in-Run-clause-goes g c =
     let spells = λ (watched : List (List ℕ)). words.run run.design.now run.board.now run.stimulus.now (option_copied run.plan) run.workers run.unknown watched in
     let is : command_view c.args.command ≡ spells (take MOST_PROBES run.probes) = ap command_view run.is in
     subst (λ (spelled : Spelled). GoesOver g.S.Shelf.seen g.O.Sink.seen vocabulary (MovedFrom (g.F.Fabric.carried c.args.hands.now.fabric.now) (g.F.Fabric.carried c.run_by_several.new.hands.fabric.now)) (course_of spelled) c.args.outside.now c.run_by_several.new.outside c.run_by_several.result) (sym (is ∙ ap spells (sym probes)))
-    c.run_by_several.ensures.goes
+    (subst (λ (by : PlanBy). GoesOver g.S.Shelf.seen g.O.Sink.seen vocabulary (MovedFrom (g.F.Fabric.carried c.args.hands.now.fabric.now) (g.F.Fabric.carried c.run_by_several.new.hands.fabric.now)) (run_course c.deref.result.now run.design.now run.board.now by run.stimulus.now run.workers run.unknown) c.args.outside.now c.run_by_several.new.outside c.run_by_several.result) c.file.ensures
+    c.run_by_several.ensures.goes)
 
 -- and this saving
 pub returns-in-Save-clause-goes : goal.returns-in-Save-clause-goes
@@ -41,7 +43,8 @@ returns-in-Save-clause-goes g c =
     let its = c.in-Save in
     let is : command_view c.args.command ≡ words.save its.design.now its.board.now its.stimulus.now (option_copied its.plan) its.workers its.unknown = ap command_view its.is in
     subst (λ (spelled : Spelled). GoesOver g.S.Shelf.seen g.O.Sink.seen vocabulary (MovedFrom (g.F.Fabric.carried c.args.hands.now.fabric.now) (g.F.Fabric.carried c.save.new.hands.fabric.now)) (course_of spelled) c.args.outside.now c.save.new.outside c.save.result) (sym is)
-    c.save.ensures.goes
+    (subst (λ (by : PlanBy). GoesOver g.S.Shelf.seen g.O.Sink.seen vocabulary (MovedFrom (g.F.Fabric.carried c.args.hands.now.fabric.now) (g.F.Fabric.carried c.save.new.hands.fabric.now)) (save_course its.design.now its.board.now by its.stimulus.now its.workers its.unknown) c.args.outside.now c.save.new.outside c.save.result) c.file-in-Save.ensures
+    c.save.ensures.goes)
 
 -- and this resumption
 pub returns-in-Resume-clause-goes : goal.returns-in-Resume-clause-goes
@@ -49,4 +52,5 @@ returns-in-Resume-clause-goes g c =
     let its = c.in-Resume in
     let is : command_view c.args.command ≡ words.resume its.design.now its.board.now its.state.now its.stimulus.now (option_copied its.plan) its.workers = ap command_view its.is in
     subst (λ (spelled : Spelled). GoesOver g.S.Shelf.seen g.O.Sink.seen vocabulary (MovedFrom (g.F.Fabric.carried c.args.hands.now.fabric.now) (g.F.Fabric.carried c.resume.new.hands.fabric.now)) (course_of spelled) c.args.outside.now c.resume.new.outside c.resume.result) (sym is)
-    c.resume.ensures.goes
+    (subst (λ (by : PlanBy). GoesOver g.S.Shelf.seen g.O.Sink.seen vocabulary (MovedFrom (g.F.Fabric.carried c.args.hands.now.fabric.now) (g.F.Fabric.carried c.resume.new.hands.fabric.now)) (resume_course its.design.now its.board.now by its.state.now its.stimulus.now its.workers) c.args.outside.now c.resume.new.outside c.resume.result) c.file-in-Resume.ensures
+    c.resume.ensures.goes)

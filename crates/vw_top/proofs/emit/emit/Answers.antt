@@ -1,6 +1,6 @@
 use Rattle.std.proofs.Common.{refl}
 use Rattle.std.proofs.lemmas.Result.{err_from_is_err_and}
-use Rattle.std.specs.Option.{option_copied}
+use Rattle.vw_top.specs.Stages.{by_of}
 use Rattle.vw_course.specs.Goes.{Unmoved}
 use Rattle.vw_course.proofs.GoesLaws.{unmoved_still}
 use Rattle.vw_courses.specs.Messages.{vocabulary}
@@ -13,12 +13,12 @@ returns-in_err-checked g c =
     let p = err_from_is_err_and c.from_residual.result c.from_residual.ensures.1 in
     let files = c.args.files.now in
     rw (p.1, p.2)
-    (goes_unready g.S.Shelf.seen g.O.Sink.seen Unmoved files.probes.nets.now emit_rest files.design.now files.board.now (option_copied files.plan) c.args.outside.now _ (record { shelf = refl; out = refl }) refl
+    (goes_unready g.S.Shelf.seen g.O.Sink.seen Unmoved files.probes.nets.now emit_rest files.design.now files.board.now (by_of files.plan) c.args.outside.now _ (record { shelf = refl; out = refl }) refl
     (unmoved_still vocabulary) c.in_err-checked.field-0.0 c.in_err-checked.ensures)
 
 pub returns : goal.returns
 returns g c =
     let files = c.args.files.now in
     let mid = record c.args.outside.now { shelf = record c.args.outside.now.shelf { now = c.ready_board.new.shelf } } in
-    goes_ready g.S.Shelf.seen g.O.Sink.seen Unmoved files.probes.nets.now emit_rest files.design.now files.board.now (option_copied files.plan) c.args.outside.now mid (record { shelf = refl; out = refl }) refl
+    goes_ready g.S.Shelf.seen g.O.Sink.seen Unmoved files.probes.nets.now emit_rest files.design.now files.board.now (by_of files.plan) c.args.outside.now mid (record { shelf = refl; out = refl }) refl
     c.in_ok-checked.checked _ c.emit_board.result c.in_ok-checked.ensures c.emit_board.ensures

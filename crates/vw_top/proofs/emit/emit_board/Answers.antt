@@ -3,7 +3,7 @@ use Rattle.std.proofs.lemmas.Result.{err_from_is_err_and}
 use Rattle.vw_course.specs.Course.{Course, writes}
 use Rattle.vw_course.specs.Goes.{Unmoved}
 use Rattle.vw_course.proofs.GoesLaws.{goes_judged, goes_unjudged, goes_writing, unmoved_still}
-use Rattle.vw_boardtext.specs.Emitted.{emitted_text}
+use Rattle.vw_emit_text.specs.Emitted.{emitted_text}
 use Rattle.vw_plan.specs.PlannedBoard.{planned_board}
 use Rattle.vw_courses.specs.Messages.{vocabulary}
 use Rattle.vw_courses.specs.Kinds.{emission}

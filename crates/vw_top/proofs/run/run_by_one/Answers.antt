@@ -1,6 +1,6 @@
 use Rattle.std.proofs.Common.{length, arith, refl}
 use Rattle.std.proofs.lemmas.Result.{err_from_is_err_and}
-use Rattle.std.specs.Option.{option_copied}
+use Rattle.vw_top.specs.Stages.{by_of}
 use Rattle.vw_course.specs.Goes.{Unmoved}
 use Rattle.vw_course.proofs.GoesLaws.{unmoved_still}
 use Rattle.vw_courses.specs.Messages.{vocabulary}
@@ -13,7 +13,7 @@ pub returns-in_err-checked : goal.returns-in_err-checked
 returns-in_err-checked g c = λ workers few.
     let p = err_from_is_err_and c.from_residual.result c.from_residual.ensures.1 in
     rw (p.1, p.2)
-    (goes_unready g.S.Shelf.seen g.O.Sink.seen Unmoved c.args.files.now.probes.nets.now (board_course c.args.stimulus.now (netlist_trace (length c.args.files.now.probes.nets.now) c.args.unknown) workers c.args.unknown) c.args.files.now.design.now c.args.files.now.board.now (option_copied c.args.files.now.plan) c.args.outside.now _ (record { shelf = refl; out = refl }) refl
+    (goes_unready g.S.Shelf.seen g.O.Sink.seen Unmoved c.args.files.now.probes.nets.now (board_course c.args.stimulus.now (netlist_trace (length c.args.files.now.probes.nets.now) c.args.unknown) workers c.args.unknown) c.args.files.now.design.now c.args.files.now.board.now (by_of c.args.files.now.plan) c.args.outside.now _ (record { shelf = refl; out = refl }) refl
     (unmoved_still vocabulary) c.in_err-checked.field-0.0 c.in_err-checked.ensures)
 
 -- the probes are among the outputs
@@ -25,5 +25,5 @@ run_checked-requires g c =
 pub returns : goal.returns
 returns g c = λ workers few.
     let mid = record c.args.outside.now { shelf = record c.args.outside.now.shelf { now = c.ready_board.new.shelf } } in
-    goes_ready g.S.Shelf.seen g.O.Sink.seen Unmoved c.args.files.now.probes.nets.now (board_course c.args.stimulus.now (netlist_trace (length c.args.files.now.probes.nets.now) c.args.unknown) workers c.args.unknown) c.args.files.now.design.now c.args.files.now.board.now (option_copied c.args.files.now.plan) c.args.outside.now mid (record { shelf = refl; out = refl }) refl
+    goes_ready g.S.Shelf.seen g.O.Sink.seen Unmoved c.args.files.now.probes.nets.now (board_course c.args.stimulus.now (netlist_trace (length c.args.files.now.probes.nets.now) c.args.unknown) workers c.args.unknown) c.args.files.now.design.now c.args.files.now.board.now (by_of c.args.files.now.plan) c.args.outside.now mid (record { shelf = refl; out = refl }) refl
     c.in_ok-checked.checked _ c.run_checked.result c.in_ok-checked.ensures (c.run_checked.ensures workers few)

@@ -1,8 +1,0 @@
--- what is written, and the ports that are left
-use Rattle.std.proofs.Common.{◌≡◌, ◌≤◌, ◌++◌, drop}
-use Rattle.vw_boardtext.specs.Nodes.{latch_ports}
-use Rattle.vw_boardtext.specs.Steps.{ports_text}
-use Rattle.vw_boardtext.proofs.ports.push_latches.Given as goal
-
-abbrev pub invariant-loop-number : goal.invariant-loop-number
-invariant-loop-number l = (l.text.items ++ ports_text l.bound (latch_ports l.chip_of l.node l.number l.latch (drop l.number l.cells)) ≡ l.initial.text.items ++ ports_text l.bound (latch_ports l.chip_of l.node 0 0 l.cells)) × (l.latch ≤ l.number)

@@ -1,9 +1,0 @@
-//! What an emitted board does, microclock by microclock.
-#![tactic(auto)]
-
-mod laws;
-
-pub use laws::{
-    emitted_boards_show_their_designs, hops_carry_their_nets, items_read_what_is_driven,
-    microclocks_follow_leads,
-};

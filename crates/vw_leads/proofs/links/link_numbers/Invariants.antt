@@ -1,6 +1,0 @@
--- the numbers of the links from here on
-use Rattle.vw_leads.specs.Steps.{HasFrom}
-use Rattle.vw_leads.proofs.links.link_numbers.Given as goal
-
-abbrev pub invariant-loop-number : goal.invariant-loop-number
-invariant-loop-number l = HasFrom l.board.links l.number l.numbers.items
