@@ -1,5 +1,5 @@
 -- What holds at every place of a course, and what it says of a call.
-use Rattle.std.proofs.Common.{◌≡◌, ◌≢◌, ◌<◌, ◌⊎◌, ℕ, List, [], ◌∷◌, ◌++◌, Ok, Err, inl, inr, sym, ◌∙◌, subst, refl, ⊎_elim}
+use Rattle.std.proofs.Common.{◌≡◌, ◌≢◌, ◌<◌, ◌⊎◌, ℕ, List, [], ◌∷◌, ◌++◌, Ok, Err, inl, inr, sym, subst}
 use Rattle.vw_outside.specs.Told.{Told, held}
 use Rattle.vw_course.specs.declared.unfinished.Unfinished.TheVariants.{ReadFault, WriteFault, NoMemory, Refused}
 use Rattle.vw_course.specs.Vocabulary.{Vocabulary, IsNoStop}
@@ -8,7 +8,7 @@ use Rattle.vw_course.specs.Course.{Again, once, again, Course, works, refuses, r
 use Rattle.vw_course.specs.Follows.{May, Answer, IsAgain, BreaksOff}
 use Rattle.vw_course.specs.Endings.{SeenCall, Ends, IsCallOf}
 use Rattle.vw_course.specs.Places.{IsOneOf, Files, BreaksHere, ReadsAgainHere, RefusesHere, ReadsHere}
-use Rattle.vw_course.specs.Statuses.{DidSome, IsReadStop, IsReadFault, IsRefused, HasStatus}
+use Rattle.vw_course.specs.Statuses.{DidSome, IsReadStop, IsRefused, HasStatus}
 use Rattle.vw_course.proofs.Inductions.{not_untold}
 use Rattle.vw_course.proofs.CallLaws.{shelf_alone}
 use Rattle.vw_course.proofs.CallTable.{call_table}

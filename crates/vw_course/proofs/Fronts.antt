@@ -1,5 +1,5 @@
 -- Fronts of courses: the files that are read and the things that are made before the rest, which goes on by what they give.
-use Rattle.std.proofs.Common.{◌≡◌, ◌<◌, ◌⊎◌, ℕ, List, [], ◌∷◌, ◌++◌, inl, inr, refl, sym, subst, ⊎_elim}
+use Rattle.std.proofs.Common.{◌≡◌, ◌<◌, ◌⊎◌, ℕ, List, [], ◌∷◌, ◌++◌, inl, refl, sym, subst, ⊎_elim}
 use Rattle.vw_outside.specs.Told.{Told, held, IsTextOf}
 use Rattle.vw_course.specs.Vocabulary.{Vocabulary, IsNoStop}
 use Rattle.vw_course.specs.Outside.{Work}

@@ -6,7 +6,7 @@ use Rattle.vw_outside.specs.Reads.{CountsFault}
 use Rattle.vw_outside.specs.Writes.{SeenSink, WrotePart, FailedAfterPart}
 use Rattle.vw_course.specs.Vocabulary.{Vocabulary, IsNoStop}
 use Rattle.vw_course.specs.Outside.{SeenOutside, Work, with_all, DidPart, FailedInPart, ShelfAlone}
-use Rattle.vw_course.specs.Course.{Course, writing}
+use Rattle.vw_course.specs.Course.{Course}
 use Rattle.vw_course.specs.Follows.{May}
 use Rattle.vw_course.specs.Endings.{SeenCall, IsReported, write_line, memory_line}
 use Rattle.vw_course.specs.Places.{IsOneOf, Files, WorksHere, BreaksHere, ReadsAgainHere, RefusesHere, ReadsHere, StandsAt, IsToWork, IsToRefuse, IsToMiss}
@@ -135,10 +135,6 @@ Holds call name text = call.before.shelf.told name ≡ held text
 -- the file of a name is told to be absent
 abbrev pub IsAbsent : {Word : Type 0} → SeenCall Word → List ℕ → Type 0
 IsAbsent call name = call.before.shelf.told name ≡ absent
-
--- out has the text at its end, and nothing else changed
-abbrev pub WritesAlone : {Word : Type 0} → List ℕ → SeenCall Word → Type 0
-WritesAlone text call = call.after ≡ with_all (writing text) call.before
 
 -- out and the links are as they were, and the status is 7, 9 or one of these
 abbrev pub IsUnworked : {Word : Type 0} → List ℕ → SeenCall Word → Type 0

@@ -4,7 +4,6 @@ use Rattle.std.specs.List.{range_with_len}
 use Rattle.std.proofs.lemmas.Bool.{and_parts, cases_lt}
 use Rattle.std.proofs.lemmas.List.{ext_get_or, get_or-replicate, get_or_past, length-map, length-replicate, length-set, take_more_set}
 use Rattle.std.proofs.lemmas.List.Elements.{All-set, filter_passes}
-use Rattle.std.proofs.lemmas.Option.{slice_get-get_or}
 use Rattle.vw_net.specs.declared.cell.Cell.{Cell}
 use Rattle.vw_net.specs.declared.cell.Cell.TheVariants.{Gate, Latch}
 use Rattle.vw_net.specs.Cells.{latch_count}
@@ -46,7 +45,7 @@ use Rattle.vw_node.proofs.NodeSteps.{next_of, stepped_agrees}
 use Rattle.vw_node.proofs.OpActions.{op_begins}
 use Rattle.vw_node.proofs.SlotBits.{bits_are, slots_long, slots_within}
 use Rattle.vw_node.proofs.SourceBits.{latch_or, length-with_row, row_is, source_bit}
-use Rattle.vw_node.proofs.StepAnswers.{actions_long, many_are, moved_to, op_within, unfinished}
+use Rattle.vw_node.proofs.StepAnswers.{AtWork, actions_long, many_are, moved_to, op_is, unfinished}
 use Rattle.vw_node.proofs.Values.{get_or-tabulate, length-tabulate}
 
 map_twice : {A B C : Type 0} (g : B → C) (f : A → B) (xs : List A) → map g (map f xs) ≡ map (λ x. g (f x)) xs
@@ -194,9 +193,12 @@ module _ (job : Job) (share : Share) (is : IsShare job share) (code : Code) (is_
 
 -- ---- the node
 
-module _ (ends : SeenEnds) (old : Node) (fits : FitsJob ends.job old) (agrees : Agrees ends.job old.share.node (state_of old) ends) (differ : old.clock ≡ old.share.clocks → ⊥) where
+module _ {ends : SeenEnds} {old : Node} (works : AtWork ends old) where
+  abbrev fits : FitsJob ends.job old
+  fits = works.fits
+
   pub row_there : old.clock < length old.rows
-  row_there = omega (arith, fits.count, unfinished ends old fits agrees differ)
+  row_there = omega (arith, fits.count, unfinished works)
 
   pub end_inputs : length old.code.now.inputs.items ≡ length old.code.now.latches.items
   end_inputs = inputs_long ends.job old.share fits.share old.code.now fits.code
@@ -210,10 +212,10 @@ module _ (ends : SeenEnds) (old : Node) (fits : FitsJob ends.job old) (agrees : 
   pub end_within : All (λ slot. slot < length old.slots.items) old.code.now.records.items
   end_within = subst (λ (count : ℕ). All (λ slot. slot < count) old.code.now.records.items) (sym fits.slots) (slots_within old.code.now.nets.items (recorded (planned_of ends.job) old.share.node) old.code.now.records.items fits.code.records)
 
-  module _ (default : Op) (is : get_or old.code.now.ops.items old.made default ≡ op.Step) where
+  module _ {read : Op} (found : read ≡ get_or old.code.now.ops.items old.made read) (is : read ≡ op.Step) where
     step_next : slice_get (actions (planned_of ends.job) old.share.node) old.made ≡ Some action.Step
     step_next =
-        let found = op_begins ends old.share.node old.code.now fits.code old.made op.Step (slice_get-get_or old.code.now.ops.items old.made default (op_within ends old fits agrees differ) ∙ ap Some is) in
+        let found = op_begins ends old.share.node old.code.now fits.code old.made op.Step (op_is works found is) in
         by found.0 found.1.0 found.1.1 where
           by : (one : Action) → slice_get (actions (planned_of ends.job) old.share.node) old.made ≡ Some one → BeginsWithAction ends.job.checked.ordered.flat old.code.now one op.Step → slice_get (actions (planned_of ends.job) old.share.node) old.made ≡ Some action.Step
           by (action.Evaluate number) at begins = absurd begins
@@ -222,7 +224,7 @@ module _ (ends : SeenEnds) (old : Node) (fits : FitsJob ends.job old) (agrees : 
           by action.Step at begins = at
 
     all_made : old.made ≡ length (entries_at old.share.node (timetable (planned_of ends.job)))
-    all_made = ⊎_elim (λ found. absurd (no_step (found.0.net - ends.job.checked.ordered.flat.inputs) found.0.net found.0.link found.0.place (is_evaluating found.0) (is_sending found.0) found.1.1)) (λ last. last.0) (next_entry (planned_of ends.job) old.share.node old.made agrees.holds.under action.Step step_next) where
+    all_made = ⊎_elim (λ found. absurd (no_step (found.0.net - ends.job.checked.ordered.flat.inputs) found.0.net found.0.link found.0.place (is_evaluating found.0) (is_sending found.0) found.1.1)) (λ last. last.0) (next_entry (planned_of ends.job) old.share.node old.made works.agrees.holds.under action.Step step_next) where
       no_step : (gate net link pin : ℕ) (first second : Bool) → action.Step ≡ (if first then action.Evaluate gate else (if second then action.Send link pin net else action.Take link pin net)) → ⊥
       no_step gate net link pin true second same = cc
       no_step gate net link pin false true same = cc
@@ -230,9 +232,9 @@ module _ (ends : SeenEnds) (old : Node) (fits : FitsJob ends.job old) (agrees : 
 
     -- and no action is left behind it
     op_last : length (actions (planned_of ends.job) old.share.node) ≤ old.made + 1
-    op_last = omega (arith, all_made, actions_long ends old fits agrees differ)
+    op_last = omega (arith, all_made, actions_long works)
 
-  module _ (new : Node) (rest : new ≡ record old { clock = old.clock + 1; made = 0; slots = new.slots; next = new.next; rows = new.rows })
+  module _ {new : Node} (rest : new ≡ record old { clock = old.clock + 1; made = 0; slots = new.slots; next = new.next; rows = new.rows })
       (slots : new.slots.items ≡ with_bits old.code.now.latches.items (map (bit_at_slot old.slots.items) old.code.now.inputs.items) (with_row (row_at old.share (old.clock + 1)) old.slots.items)) (next : length new.next.items ≡ length old.next.items)
       (rows : new.rows ≡ set old.rows old.clock (map (bit_at_slot old.slots.items) old.code.now.records.items)) where
     abbrev line : List Bool
@@ -244,14 +246,14 @@ module _ (ends : SeenEnds) (old : Node) (fits : FitsJob ends.job old) (agrees : 
     same_code : new.code.now ≡ old.code.now
     same_code = ap (λ (one : Node). one.code.now) rest
 
-    pub end_fits : (default : Op) → get_or old.code.now.ops.items old.made default ≡ op.Step → FitsJob ends.job new
-    end_fits default is = record {
+    pub end_fits : {read : Op} → read ≡ get_or old.code.now.ops.items old.made read → read ≡ op.Step → FitsJob ends.job new
+    end_fits found is = record {
       share = subst (IsShare ends.job) (sym same_share) fits.share;
       code = subst (λ (share : Share). IsCode (planned_of ends.job) share.node (actions (planned_of ends.job) share.node) new.code.now) (sym same_share) (subst (IsCode (planned_of ends.job) old.share.node (actions (planned_of ends.job) old.share.node)) (sym same_code) fits.code);
       loops =
           let program = actions (planned_of ends.job) old.share.node in
-          let here = stand_on program old.code.now.loops.items old.made old.places.items fits.loops action.Step (step_next default is) (λ link pin. refl) in
-          let all : length program ≤ old.made + 1 = omega (arith, op_last default is) in
+          let here = stand_on program old.code.now.loops.items old.made old.places.items fits.loops action.Step (step_next found is) (λ link pin. refl) in
+          let all : length program ≤ old.made + 1 = omega (arith, op_last found is) in
           let again = stand_again program old.code.now.loops.items (old.made + 1) old.places.items here fits.code.loops all in
           subst (λ (one : Node). Stand (actions (planned_of ends.job) one.share.node) one.code.now.loops.items one.made one.places.items) (sym rest) again;
       slots = ap (λ (bits : List Bool). length bits) slots ∙ length-sourced ends.job old.share fits.share old.code.now fits.code (map (bit_at_slot old.slots.items) old.code.now.inputs.items) (old.clock + 1) old.slots.items fits.slots ∙ ap (λ (code : Code). length code.nets.items) (sym same_code);
@@ -268,13 +270,13 @@ module _ (ends : SeenEnds) (old : Node) (fits : FitsJob ends.job old) (agrees : 
         ap state_of rest
         ∙ ap₂ (λ (bits : List Bool) (lines : List (List Bool)). let state : NodeState = record { clock = old.clock + 1; made = 0; slots = tabulate (bit_by old.code.now.nets.items bits) (net_count old.share); rows = take (old.clock + 1) lines } in state) slots rows
         ∙ ap₂ (λ (all : List Bool) (lines : List (List Bool)). let state : NodeState = record { clock = old.clock + 1; made = 0; slots = all; rows = lines } in state)
-        (stepped_now ends.job old.share fits.share old.code.now fits.code (net_count old.share) old.clock old.made old.slots.items (take old.clock old.rows) (many_are ends old fits agrees differ) fits.slots)
+        (stepped_now ends.job old.share fits.share old.code.now fits.code (net_count old.share) old.clock old.made old.slots.items (take old.clock old.rows) (many_are works) fits.slots)
         (take_more_set old.rows old.clock line row_there
-        ∙ ap (λ (bits : List Bool). take old.clock old.rows ++ bits ∷ []) (recorded_now ends.job old.share fits.share old.code.now fits.code (net_count old.share) old.clock old.made old.slots.items (take old.clock old.rows) (many_are ends old fits agrees differ) fits.slots))
+        ∙ ap (λ (bits : List Bool). take old.clock old.rows ++ bits ∷ []) (recorded_now ends.job old.share fits.share old.code.now fits.code (net_count old.share) old.clock old.made old.slots.items (take old.clock old.rows) (many_are works) fits.slots))
 
-    module _ (default : Op) (is : get_or old.code.now.ops.items old.made default ≡ op.Step) where
+    module _ {read : Op} (found : read ≡ get_or old.code.now.ops.items old.made read) (is : read ≡ op.Step) where
       pub end_agrees : Agrees ends.job new.share.node (state_of new) ends
-      end_agrees = moved_to ends old fits agrees differ new (stepped ends.job old.share.node (state_of old)) ends same_share end_state (stepped_agrees ends old.share.node (state_of old) agrees (unfinished ends old fits agrees differ) (all_made default is))
+      end_agrees = moved_to works new (stepped ends.job old.share.node (state_of old)) ends same_share end_state (stepped_agrees ends old.share.node (state_of old) works.agrees (unfinished works) (all_made found is))
 
       pub end_makes : (whole : Bool) → MakesSome ends.job old.share.node (state_of old) (state_of new) ends ends whole Moved
-      end_makes whole = makes_one ends.job old.share.node (state_of old) (state_of new) ends ends whole (action.Step, next_of ends old.share.node (state_of old) agrees (unfinished ends old fits agrees differ) action.Step (step_next default is), (end_state, refl)) agrees.holds
+      end_makes whole = makes_one ends.job old.share.node (state_of old) (state_of new) ends ends whole (action.Step, next_of ends old.share.node (state_of old) works.agrees (unfinished works) action.Step (step_next found is), (end_state, refl)) works.agrees.holds

@@ -1,5 +1,5 @@
 -- A deal after one more cell, and after a move.
-use Rattle.std.proofs.Common.{◌≡◌, ◌<◌, ◌≤◌, ◌+◌, ◌*◌, ℕ, List, [], ◌∷◌, ◌++◌, length, get_or, set, nat_lt, ap, sym, subst, ◌∙◌, ⊎_elim, All, arith}
+use Rattle.std.proofs.Common.{◌≡◌, ◌≢◌, ◌<◌, ◌≤◌, ◌+◌, ◌*◌, ℕ, List, [], ◌∷◌, ◌++◌, length, get_or, set, nat_lt, sym, subst, ◌∙◌, ⊎_elim, All, arith}
 use Rattle.std.proofs.lemmas.Bool.{cases_eq}
 use Rattle.std.proofs.lemmas.List.{get_or-set_other, get_or-set_same, length-set, length_push}
 use Rattle.std.proofs.lemmas.List.Elements.{All-get_or, All-push, All-set}
@@ -12,10 +12,14 @@ use Rattle.vw_part.specs.declared.cell_nets.CellNets.{CellNets}
 use Rattle.vw_part.specs.Steps.Deals.{IsDeal, IsLoad, MayMoveTo, cells_held, met, cell_nets_at}
 use Rattle.vw_part.specs.Steps.CellNets.{times_among}
 use Rattle.vw_part.proofs.ChipLoads.{all_full, held_push, held_set, on_all, on_push, on_set}
-use Rattle.vw_part.proofs.Shares.{at_other, at_same}
+use Rattle.vw_part.proofs.Shares.{at, at_other, at_same}
+
+-- the chips below a number have no room
+abbrev pub AreFullBelow : Board → List ℕ → ℕ → Type 0
+AreFullBelow board chips bound = (chip : ℕ) → 1 ≤ chip → chip < bound → board.cells ≤ cells_on chips chip
 
 -- some chip has room
-pub not_all_full : (board : Board) (chips : List ℕ) → All (IsChip board) chips → length chips < board.chips * board.cells → ((chip : ℕ) → 1 ≤ chip → chip < 1 + board.chips → board.cells ≤ cells_on chips chip) → ⊥
+pub not_all_full : (board : Board) (chips : List ℕ) → All (IsChip board) chips → length chips < board.chips * board.cells → AreFullBelow board chips (1 + board.chips) → ⊥
 not_all_full board chips real few full =
     omega (arith, few, on_all chips board.chips real, all_full (cells_on chips) board.cells 1 board.chips full)
 
@@ -25,94 +29,183 @@ pub record HasCellMore (own : List ℕ) (before after : Load) : Type 0 where
   pub long : length after.held.counts.items ≡ length before.held.counts.items
   pub counts : (net : ℕ) → get_or after.held.counts.items net 0 ≡ get_or before.held.counts.items net 0 + times_among own net
 
-load_same : (cell_nets : CellNets) (chips others : List ℕ) (chip : ℕ) (load : Load) → cells_on others chip ≡ cells_on chips chip → ((net : ℕ) → cells_held others cell_nets.of_cells.items chip net ≡ cells_held chips cell_nets.of_cells.items chip net) → IsLoad cell_nets chips chip load → IsLoad cell_nets others chip load
-load_same cell_nets chips others chip load cells counts is = record {
-  cells = is.cells ∙ sym cells;
-  long = is.long;
-  counts = λ net. is.counts net ∙ sym (counts net);
-}
+-- one load is written: what holds of it, and of the loads of all other chips, then holds of every chip's load
+pub loads_written : (Holds : ℕ → Load → Type 0) (loads : List Load) (place : ℕ) (load : Load) → place < length loads → Holds place load
+    → (chip : ℕ) (default : Load) → (place ≢ chip → Holds chip (get_or loads chip default)) → Holds chip (get_or (set loads place load) chip default)
+loads_written Holds loads place load within here chip default elsewhere =
+    let if_here = λ (is : place ≡ chip).
+    let written = subst (λ (x : Load). Holds place x) (sym (get_or-set_same loads place load default within)) here in
+    subst (λ (x : ℕ). Holds x (get_or (set loads place load) x default)) is written in
+    let if_not = λ (apart : place ≢ chip).
+    let kept = get_or-set_other loads place chip load default (λ same. apart (sym same)) in
+    subst (λ (x : Load). Holds chip x) (sym kept) (elsewhere apart) in
+    ⊎_elim if_here if_not (cases_eq place chip)
 
-pub dealt_more : (board : Board) (cell_nets : CellNets) (chips_before chips_after : List ℕ) (loads_before loads_after : List Load) (chip : ℕ) (load : Load) → IsDeal board cell_nets chips_before loads_before → length chips_before < length cell_nets.of_cells.items → IsChip board chip → cells_on chips_before chip < board.cells → chips_after ≡ chips_before ++ chip ∷ [] → loads_after ≡ set loads_before chip load → HasCellMore (cell_nets_at cell_nets (length chips_before)) (get_or loads_before chip load) load → IsDeal board cell_nets chips_after loads_after
-dealt_more board cell_nets chips_before chips_after loads_before loads_after chip load is next real room chip_of loads more =
-    let chips = chips_before in
-    let own = cell_nets_at cell_nets (length chips) in
-    let new = chips ++ chip ∷ [] in
-    let within : chip < length loads_before = omega (arith, is.nodes, real.1) in
-    let if_on : (other : ℕ) → cells_on new other ≤ board.cells = λ other.
-    let if_here = λ (here : chip ≡ other). let fits : cells_on new other ≤ board.cells = subst (λ (x : ℕ). cells_on new x ≤ board.cells) here (omega (arith, on_push chips chip chip, at_same chip 1, room)) in fits in
-    let if_not = λ (apart : chip ≡ other → ⊥). let fits : cells_on new other ≤ board.cells = omega (arith, on_push chips chip other, at_other chip 1 other apart, is.room other) in fits in
-    ⊎_elim if_here if_not (cases_eq chip other) in
-    let load_of : (other : ℕ) (default : Load) → other ≤ board.chips → IsLoad cell_nets new other (get_or (set loads_before chip load) other default) = λ other default low.
-    let if_here = λ (here : chip ≡ other).
-    let old = is.held chip load real.1 in
-    let own_load : IsLoad cell_nets new chip load = record {
-      cells = omega (arith, more.cells, old.cells, on_push chips chip chip, at_same chip 1);
-      long = more.long ∙ old.long;
-      counts = λ net. omega (arith, more.counts net, old.counts net, held_push chips cell_nets.of_cells.items chip chip net next, at_same chip (times_among own net));
-    } in
-    let found : IsLoad cell_nets new chip (get_or (set loads_before chip load) chip default) = subst (λ (x : Load). IsLoad cell_nets new chip x) (sym (get_or-set_same loads_before chip load default within)) own_load in
-    subst (λ (x : ℕ). IsLoad cell_nets new x (get_or (set loads_before chip load) x default)) here found in
-    let if_not = λ (apart : chip ≡ other → ⊥).
-    let kept : IsLoad cell_nets new other (get_or loads_before other default) = load_same cell_nets chips new other (get_or loads_before other default) (omega (arith, on_push chips chip other, at_other chip 1 other apart)) (λ net. omega (arith, held_push chips cell_nets.of_cells.items chip other net next, at_other chip (times_among own net) other apart)) (is.held other default low) in
-    subst (λ (x : Load). IsLoad cell_nets new other x) (sym (get_or-set_other loads_before chip other load default (λ same. apart (sym same)))) kept in
-    ⊎_elim if_here if_not (cases_eq chip other) in
-    record {
-      few = omega (arith, ap (λ (l : List ℕ). length l) chip_of, length_push chips chip, next);
-      chips = subst (λ (l : List ℕ). All (IsChip board) l) (sym chip_of) (All-push (IsChip board) chips chip is.chips real);
-      room = λ other. subst (λ (l : List ℕ). cells_on l other ≤ board.cells) (sym chip_of) (if_on other);
-      nodes = ap (λ (l : List Load). length l) loads ∙ length-set loads_before chip load ∙ is.nodes;
-      held = λ other default low. subst (λ (l : List ℕ). IsLoad cell_nets l other (get_or loads_after other default)) (sym chip_of) (subst (λ (l : List Load). IsLoad cell_nets new other (get_or l other default)) (sym loads) (load_of other default low));
-    }
+-- ---- after one more cell
 
--- after a move
-pub dealt_moved : (board : Board) (cell_nets : CellNets) (chips_before chips_after : List ℕ) (loads_before loads_after : List Load) (cell chip : ℕ) (left come : Load) → IsDeal board cell_nets chips_before loads_before → cell < length chips_before → MayMoveTo board chips_before cell chip → chips_after ≡ set chips_before cell chip → loads_after ≡ set (set loads_before (get_or chips_before cell 0) left) chip come → HasCellMore (cell_nets_at cell_nets cell) left (get_or loads_before (get_or chips_before cell 0) left) → HasCellMore (cell_nets_at cell_nets cell) (get_or loads_before chip come) come → IsDeal board cell_nets chips_after loads_after
-dealt_moved board cell_nets chips_before chips_after loads_before loads_after cell chip left come is within target chip_of loads less more =
-    let chips = chips_before in
-    let own = cell_nets_at cell_nets cell in
-    let from = get_or chips cell 0 in
-    let new = set chips cell chip in
-    let was = All-get_or (IsChip board) chips cell 0 within is.chips in
-    let from_within : from < length loads_before = omega (arith, is.nodes, was.1) in
-    let chip_within : chip < length (set loads_before from left) = omega (arith, length-set loads_before from left, is.nodes, target.real.1) in
-    let on = λ (other : ℕ). on_set chips cell chip other within in
-    let nets_on = λ (other net : ℕ). held_set chips cell_nets.of_cells.items cell chip other net within in
-    let room_of : (other : ℕ) → cells_on new other ≤ board.cells = λ other.
-    let if_here = λ (here : chip ≡ other). let fits : cells_on new other ≤ board.cells = subst (λ (x : ℕ). cells_on new x ≤ board.cells) here (omega (arith, on chip, at_same chip 1, target.room)) in fits in
-    let if_not = λ (apart : chip ≡ other → ⊥). let fits : cells_on new other ≤ board.cells = omega (arith, on other, at_other chip 1 other apart, is.room other) in fits in
-    ⊎_elim if_here if_not (cases_eq chip other) in
-    let load_of : (other : ℕ) (default : Load) → other ≤ board.chips → IsLoad cell_nets new other (get_or (set (set loads_before from left) chip come) other default) = λ other default low.
-    let if_here = λ (here : chip ≡ other).
-    let old = is.held chip come target.real.1 in
-    let own_load : IsLoad cell_nets new chip come = record {
-      cells = omega (arith, more.cells, old.cells, on chip, at_same chip 1, at_other from 1 chip target.away);
-      long = more.long ∙ old.long;
-      counts = λ net. omega (arith, more.counts net, old.counts net, nets_on chip net, at_same chip (times_among own net), at_other from (times_among own net) chip target.away);
-    } in
-    let found : IsLoad cell_nets new chip (get_or (set (set loads_before from left) chip come) chip default) = subst (λ (x : Load). IsLoad cell_nets new chip x) (sym (get_or-set_same (set loads_before from left) chip come default chip_within)) own_load in
-    subst (λ (x : ℕ). IsLoad cell_nets new x (get_or (set (set loads_before from left) chip come) x default)) here found in
-    let if_not = λ (apart : chip ≡ other → ⊥).
-    let if_from = λ (here : from ≡ other).
-    let old = is.held from left was.1 in
-    let own_load : IsLoad cell_nets new from left = record {
-      cells = omega (arith, less.cells, old.cells, on from, at_same from 1, at_other chip 1 from (λ same. target.away (sym same)));
-      long = sym less.long ∙ old.long;
-      counts = λ net. omega (arith, less.counts net, old.counts net, nets_on from net, at_same from (times_among own net), at_other chip (times_among own net) from (λ same. target.away (sym same)));
-    } in
-    let found : IsLoad cell_nets new from (get_or (set loads_before from left) from default) = subst (λ (x : Load). IsLoad cell_nets new from x) (sym (get_or-set_same loads_before from left default from_within)) own_load in
-    subst (λ (x : ℕ). IsLoad cell_nets new x (get_or (set loads_before from left) x default)) here found in
-    let if_other = λ (away : from ≡ other → ⊥).
-    let kept : IsLoad cell_nets new other (get_or loads_before other default) = load_same cell_nets chips new other (get_or loads_before other default) (omega (arith, on other, at_other chip 1 other apart, at_other from 1 other away)) (λ net. omega (arith, nets_on other net, at_other chip (times_among own net) other apart, at_other from (times_among own net) other away)) (is.held other default low) in
-    subst (λ (x : Load). IsLoad cell_nets new other x) (sym (get_or-set_other loads_before from other left default (λ same. away (sym same)))) kept in
-    let before_last : IsLoad cell_nets new other (get_or (set loads_before from left) other default) = ⊎_elim if_from if_other (cases_eq from other) in
-    subst (λ (x : Load). IsLoad cell_nets new other x) (sym (get_or-set_other (set loads_before from left) chip other come default (λ same. apart (sym same)))) before_last in
-    ⊎_elim if_here if_not (cases_eq chip other) in
-    record {
-      few = omega (arith, ap (λ (l : List ℕ). length l) chip_of, length-set chips cell chip, is.few);
-      chips = subst (λ (l : List ℕ). All (IsChip board) l) (sym chip_of) (All-set (IsChip board) chips cell chip target.real is.chips);
-      room = λ other. subst (λ (l : List ℕ). cells_on l other ≤ board.cells) (sym chip_of) (room_of other);
-      nodes = ap (λ (l : List Load). length l) loads ∙ length-set (set loads_before from left) chip come ∙ length-set loads_before from left ∙ is.nodes;
-      held = λ other default low. subst (λ (l : List ℕ). IsLoad cell_nets l other (get_or loads_after other default)) (sym chip_of) (subst (λ (l : List Load). IsLoad cell_nets new other (get_or l other default)) (sym loads) (load_of other default low));
-    }
+-- the next cell may be put on a chip
+pub record MayPut (board : Board) (cell_nets : CellNets) (chips : List ℕ) (chip : ℕ) : Type 0 where
+  pub next : length chips < length cell_nets.of_cells.items
+  pub real : IsChip board chip
+  pub room : cells_on chips chip < board.cells
+
+-- it is put there, and the chip's load has one more cell
+module _ (board : Board) (cell_nets : CellNets) (chips : List ℕ) (loads : List Load) (chip : ℕ) (load : Load)
+    (is : IsDeal board cell_nets chips loads) (may : MayPut board cell_nets chips chip)
+    (more : HasCellMore (cell_nets_at cell_nets (length chips)) (get_or loads chip load) load) where
+  -- the chips of the cells with the new one
+  abbrev pushed : List ℕ
+  pushed = chips ++ chip ∷ []
+
+  -- how often the new cell has a net
+  abbrev times_pushed : ℕ → ℕ
+  times_pushed net = times_among (cell_nets_at cell_nets (length chips)) net
+
+  room_when_pushed : (other : ℕ) → cells_on pushed other ≤ board.cells
+  room_when_pushed other =
+      let if_here = λ (here : chip ≡ other).
+      let fits : cells_on pushed chip ≤ board.cells = omega (arith, on_push chips chip chip, at_same chip 1, may.room) in
+      subst (λ (x : ℕ). cells_on pushed x ≤ board.cells) here fits in
+      let if_not = λ (apart : chip ≢ other).
+      let fits : cells_on pushed other ≤ board.cells = omega (arith, on_push chips chip other, at_other chip 1 other apart, is.room other) in fits in
+      ⊎_elim if_here if_not (cases_eq chip other)
+
+  -- the chip's own load, and those of the others
+  load_with_pushed : IsLoad cell_nets pushed chip load
+  load_with_pushed =
+      let old = is.held chip load may.real.1 in
+      record {
+        cells = omega (arith, more.cells, old.cells, on_push chips chip chip, at_same chip 1);
+        long = more.long ∙ old.long;
+        counts = λ net.
+            let held = held_push chips cell_nets.of_cells.items chip chip net may.next in
+            omega (arith, more.counts net, old.counts net, held, at_same chip (times_pushed net));
+      }
+
+  load_beside_pushed : (other : ℕ) (old : Load) → chip ≢ other → IsLoad cell_nets chips other old → IsLoad cell_nets pushed other old
+  load_beside_pushed other old apart was = record {
+    cells = omega (arith, was.cells, on_push chips chip other, at_other chip 1 other apart);
+    long = was.long;
+    counts = λ net.
+        let held = held_push chips cell_nets.of_cells.items chip other net may.next in
+        omega (arith, was.counts net, held, at_other chip (times_pushed net) other apart);
+  }
+
+  -- so there is a deal with the cell
+  pub dealt_more : (chips_after : List ℕ) (loads_after : List Load) → chips_after ≡ pushed → loads_after ≡ set loads chip load → IsDeal board cell_nets chips_after loads_after
+  dealt_more chips_after loads_after chips_are loads_are =
+      let within : chip < length loads = omega (arith, is.nodes, may.real.1) in
+      let deal : IsDeal board cell_nets pushed (set loads chip load) = record {
+        few = omega (arith, length_push chips chip, may.next);
+        chips = All-push (IsChip board) chips chip is.chips may.real;
+        room = room_when_pushed;
+        nodes = length-set loads chip load ∙ is.nodes;
+        held = λ other default low.
+            let beside = λ (apart : chip ≢ other). load_beside_pushed other (get_or loads other default) apart (is.held other default low) in
+            loads_written (IsLoad cell_nets pushed) loads chip load within load_with_pushed other default beside;
+      } in
+      rw (chips_are, loads_are) deal
+
+-- ---- after a move
+
+-- a cell moves to a chip where it may: the load that it leaves has one cell less, and that to which it comes one more
+module _ (board : Board) (cell_nets : CellNets) (chips : List ℕ) (loads : List Load) (cell chip : ℕ) (left come : Load)
+    (is : IsDeal board cell_nets chips loads) (within : cell < length chips) (target : MayMoveTo board chips cell chip)
+    (less : HasCellMore (cell_nets_at cell_nets cell) left (get_or loads (get_or chips cell 0) left))
+    (more : HasCellMore (cell_nets_at cell_nets cell) (get_or loads chip come) come) where
+  -- the chip that the cell leaves
+  abbrev from : ℕ
+  from = get_or chips cell 0
+
+  -- the chips of the cells after the move
+  abbrev moved : List ℕ
+  moved = set chips cell chip
+
+  -- the loads when the cell has left the one chip, and has not come to the other
+  abbrev loads_between : List Load
+  loads_between = set loads from left
+
+  -- how often the cell that moves has a net
+  abbrev times_moved : ℕ → ℕ
+  times_moved net = times_among (cell_nets_at cell_nets cell) net
+
+  -- how many cells of a chip hold a net, where cells are on these chips
+  abbrev held_on : List ℕ → ℕ → ℕ → ℕ
+  held_on places other net = cells_held places cell_nets.of_cells.items other net
+
+  cells_moved : (other : ℕ) → cells_on moved other + at from 1 other ≡ cells_on chips other + at chip 1 other
+  cells_moved other = on_set chips cell chip other within
+
+  nets_moved : (other net : ℕ) → held_on moved other net + at from (times_moved net) other ≡ held_on chips other net + at chip (times_moved net) other
+  nets_moved other net = held_set chips cell_nets.of_cells.items cell chip other net within
+
+  from_real : IsChip board from
+  from_real = All-get_or (IsChip board) chips cell 0 within is.chips
+
+  back_away : chip ≢ from
+  back_away same = target.away (sym same)
+
+  room_when_moved : (other : ℕ) → cells_on moved other ≤ board.cells
+  room_when_moved other =
+      let if_here = λ (here : chip ≡ other).
+      let fits : cells_on moved chip ≤ board.cells = omega (arith, cells_moved chip, at_same chip 1, target.room) in
+      subst (λ (x : ℕ). cells_on moved x ≤ board.cells) here fits in
+      let if_not = λ (apart : chip ≢ other).
+      let fits : cells_on moved other ≤ board.cells = omega (arith, cells_moved other, at_other chip 1 other apart, is.room other) in fits in
+      ⊎_elim if_here if_not (cases_eq chip other)
+
+  -- the loads of the two chips, and those of the others
+  load_that_it_leaves : IsLoad cell_nets moved from left
+  load_that_it_leaves =
+      let old = is.held from left from_real.1 in
+      record {
+        cells = omega (arith, less.cells, old.cells, cells_moved from, at_same from 1, at_other chip 1 from back_away);
+        long = sym less.long ∙ old.long;
+        counts = λ net.
+            let none = at_other chip (times_moved net) from back_away in
+            omega (arith, less.counts net, old.counts net, nets_moved from net, at_same from (times_moved net), none);
+      }
+
+  load_to_which_it_comes : IsLoad cell_nets moved chip come
+  load_to_which_it_comes =
+      let old = is.held chip come target.real.1 in
+      record {
+        cells = omega (arith, more.cells, old.cells, cells_moved chip, at_same chip 1, at_other from 1 chip target.away);
+        long = more.long ∙ old.long;
+        counts = λ net.
+            let none = at_other from (times_moved net) chip target.away in
+            omega (arith, more.counts net, old.counts net, nets_moved chip net, at_same chip (times_moved net), none);
+      }
+
+  load_beside_moved : (other : ℕ) (old : Load) → chip ≢ other → from ≢ other → IsLoad cell_nets chips other old → IsLoad cell_nets moved other old
+  load_beside_moved other old apart away was = record {
+    cells = omega (arith, was.cells, cells_moved other, at_other chip 1 other apart, at_other from 1 other away);
+    long = was.long;
+    counts = λ net.
+        let not_come = at_other chip (times_moved net) other apart in
+        let not_left = at_other from (times_moved net) other away in
+        omega (arith, was.counts net, nets_moved other net, not_come, not_left);
+  }
+
+  -- so there is a deal after the move
+  pub dealt_moved : (chips_after : List ℕ) (loads_after : List Load) → chips_after ≡ moved → loads_after ≡ set loads_between chip come → IsDeal board cell_nets chips_after loads_after
+  dealt_moved chips_after loads_after chips_are loads_are =
+      let between_long = length-set loads from left in
+      let from_within : from < length loads = omega (arith, is.nodes, from_real.1) in
+      let chip_within : chip < length loads_between = omega (arith, between_long, is.nodes, target.real.1) in
+      let deal : IsDeal board cell_nets moved (set loads_between chip come) = record {
+        few = omega (arith, length-set chips cell chip, is.few);
+        chips = All-set (IsChip board) chips cell chip target.real is.chips;
+        room = room_when_moved;
+        nodes = length-set loads_between chip come ∙ between_long ∙ is.nodes;
+        held = λ other default low.
+            let beside = λ (apart : chip ≢ other) (away : from ≢ other).
+            load_beside_moved other (get_or loads other default) apart away (is.held other default low) in
+            let between = λ (apart : chip ≢ other).
+            loads_written (IsLoad cell_nets moved) loads from left from_within load_that_it_leaves other default (beside apart) in
+            loads_written (IsLoad cell_nets moved) loads_between chip come chip_within load_to_which_it_comes other default between;
+      } in
+      rw (chips_are, loads_are) deal
 
 -- ---- what a load says of its chip
 

@@ -21,29 +21,38 @@ cell_there its cells number cell are within is = ap (λ (list : List Cell). slic
 pub none_there : (its cells : List Cell) (number : ℕ) → its ≡ cells → length its ≤ number → slice_get cells number ≡ None
 none_there its cells number are past = ap (λ (list : List Cell). slice_get list number) (sym are) ∙ slice_get_past its number past
 
-module _ (inputs : ℕ) (table : List ℕ) (number slot first place : ℕ) (cell : Option Cell) (ins : List ℕ) (cover : Cover) (is : cell ≡ Some (Gate ins cover)) where
+-- a gate of at most six inputs, and a wider one
+module _ {cell : Option Cell} {ins : List ℕ} {cover : Cover} (is : cell ≡ Some (Gate ins cover)) where
   module _ (few : cover.inputs ≤ 6) where
     small : nat_le cover.inputs 6 ≡ true
     small = le-leb cover.inputs 6 few
 
-    pub small_op : Run first (first + 1) slot ≡ cell_op slot first place cell
-    small_op = sym (ap (cell_op slot first place) is ∙ ap (λ (one : Bool). if one then Run first (first + 1) slot else Wide place) small)
+    pub small_op : (slot first place : ℕ) → Run first (first + 1) slot ≡ cell_op slot first place cell
+    small_op slot first place = sym (ap (cell_op slot first place) is ∙ ap (λ (one : Bool). if one then Run first (first + 1) slot else Wide place) small)
 
-    pub small_gates : (gates new : List PaddedGate) → new ≡ gates ++ table_gate table ins cover.inputs (truth_table_of cover) ∷ [] → new ≡ gates ++ cell_gates inputs table number cell
-    small_gates gates new added = added ∙ sym (ap (λ (one : Option Cell). gates ++ cell_gates inputs table number one) is ∙ ap (λ (one : Bool). gates ++ (if one then table_gate table ins cover.inputs (truth_table_of cover) ∷ [] else [])) small)
+    pub small_gates : (inputs : ℕ) (table : List ℕ) (number : ℕ) (gates new : List PaddedGate) → new ≡ gates ++ table_gate table ins cover.inputs (truth_table_of cover) ∷ [] → new ≡ gates ++ cell_gates inputs table number cell
+    small_gates inputs table number gates new added =
+        added
+        ∙ sym (ap (λ (one : Option Cell). gates ++ cell_gates inputs table number one) is ∙ ap (λ (one : Bool). gates ++ (if one then table_gate table ins cover.inputs (truth_table_of cover) ∷ [] else [])) small)
 
-    pub small_wide : (wide : List WideGate) → wide ≡ wide ++ cell_wide inputs table number cell
-    small_wide wide = nothing_more wide ∙ sym (ap (λ (one : Option Cell). wide ++ cell_wide inputs table number one) is ∙ ap (λ (one : Bool). wide ++ (if one then [] else wide_gate table number (inputs + number) ins ∷ [])) small)
+    pub small_wide : (inputs : ℕ) (table : List ℕ) (number : ℕ) (wide : List WideGate) → wide ≡ wide ++ cell_wide inputs table number cell
+    small_wide inputs table number wide =
+        nothing_more wide
+        ∙ sym (ap (λ (one : Option Cell). wide ++ cell_wide inputs table number one) is ∙ ap (λ (one : Bool). wide ++ (if one then [] else wide_gate table number (inputs + number) ins ∷ [])) small)
 
   module _ (many : 6 < cover.inputs) where
     large : nat_le cover.inputs 6 ≡ false
     large = lt-leb cover.inputs 6 many
 
-    pub large_op : Wide place ≡ cell_op slot first place cell
-    large_op = sym (ap (cell_op slot first place) is ∙ ap (λ (one : Bool). if one then Run first (first + 1) slot else Wide place) large)
+    pub large_op : (slot first place : ℕ) → Wide place ≡ cell_op slot first place cell
+    large_op slot first place = sym (ap (cell_op slot first place) is ∙ ap (λ (one : Bool). if one then Run first (first + 1) slot else Wide place) large)
 
-    pub large_gates : (gates : List PaddedGate) → gates ≡ gates ++ cell_gates inputs table number cell
-    large_gates gates = nothing_more gates ∙ sym (ap (λ (one : Option Cell). gates ++ cell_gates inputs table number one) is ∙ ap (λ (one : Bool). gates ++ (if one then table_gate table ins cover.inputs (truth_table_of cover) ∷ [] else [])) large)
+    pub large_gates : (inputs : ℕ) (table : List ℕ) (number : ℕ) (gates : List PaddedGate) → gates ≡ gates ++ cell_gates inputs table number cell
+    large_gates inputs table number gates =
+        nothing_more gates
+        ∙ sym (ap (λ (one : Option Cell). gates ++ cell_gates inputs table number one) is ∙ ap (λ (one : Bool). gates ++ (if one then table_gate table ins cover.inputs (truth_table_of cover) ∷ [] else [])) large)
 
-    pub large_wide : (wide new : List WideGate) → new ≡ wide ++ wide_gate table number (inputs + number) ins ∷ [] → new ≡ wide ++ cell_wide inputs table number cell
-    large_wide wide new added = added ∙ sym (ap (λ (one : Option Cell). wide ++ cell_wide inputs table number one) is ∙ ap (λ (one : Bool). wide ++ (if one then [] else wide_gate table number (inputs + number) ins ∷ [])) large)
+    pub large_wide : (inputs : ℕ) (table : List ℕ) (number : ℕ) (wide new : List WideGate) → new ≡ wide ++ wide_gate table number (inputs + number) ins ∷ [] → new ≡ wide ++ cell_wide inputs table number cell
+    large_wide inputs table number wide new added =
+        added
+        ∙ sym (ap (λ (one : Option Cell). wide ++ cell_wide inputs table number one) is ∙ ap (λ (one : Bool). wide ++ (if one then [] else wide_gate table number (inputs + number) ins ∷ [])) large)

@@ -1,5 +1,5 @@
 -- What the statuses of `demo` say, from those of the run that it is.
-use Rattle.std.proofs.Common.{◌≡◌, ◌⊎◌, ⊎_elim, ◌<◌, ℕ, List, false, [], ◌∷◌, None, Ok, Err, refl, sym, ◌∙◌, ap, subst, inl, inr, arith}
+use Rattle.std.proofs.Common.{◌≡◌, ◌⊎◌, ⊎_elim, ◌<◌, ℕ, List, false, [], ◌∷◌, Ok, Err, refl, sym, ◌∙◌, ap, subst, inl, inr, arith}
 use Rattle.std.specs.Prelude.{◌≢◌, unwrap_or}
 use Rattle.vw_outside.specs.Told.{held}
 use Rattle.vw_outside.specs.Writes.{SeenSink, appended, seen_bytes, WrotePart, FailedAfterPart}

@@ -1,5 +1,5 @@
 -- What each status says of the design that a command reads first.
-use Rattle.std.proofs.Common.{ℕ, List, [], ◌∷◌, ◌≡◌, refl, inl, inr, lit<}
+use Rattle.std.proofs.Common.{ℕ, List, [], ◌∷◌, refl, inl, inr, lit<}
 use Rattle.vw_design.specs.Paths.{Word}
 use Rattle.vw_course.specs.Course.{Course, stage}
 use Rattle.vw_course.specs.Endings.{IsCallOf}

@@ -1,5 +1,5 @@
 -- What each status says of the design, the board and the plan of a command that begins with these, whatever comes behind.
-use Rattle.std.proofs.Common.{◌≡◌, ◌<◌, ◌≤◌, ◌≢◌, ◌*◌, ◌⊎◌, ◌++◌, ℕ, List, Some, length, [], ◌∷◌, refl, sym, ◌∙◌, ap, ap₂, subst, inl, inr, ⊎_elim, lit<, arith}
+use Rattle.std.proofs.Common.{◌≡◌, ◌<◌, ◌≤◌, ◌≢◌, ◌*◌, ◌⊎◌, ◌++◌, ℕ, List, length, [], ◌∷◌, refl, sym, ◌∙◌, ap, ap₂, subst, inl, inr, ⊎_elim, lit<, arith}
 use Rattle.vw_net.specs.declared.flat.Flat.{Flat}
 use Rattle.vw_net.specs.declared.ordered.Ordered.{Ordered}
 use Rattle.vw_design.specs.Paths.{Word}
@@ -12,7 +12,7 @@ use Rattle.vw_course.specs.Places.{IsOneOf, Files, WorksHere, BreaksHere, Refuse
 use Rattle.vw_course.specs.Statuses.{IsRefusedFor, MayDo}
 use Rattle.vw_course.proofs.Inductions.{its_text}
 use Rattle.vw_course.proofs.StandLaws.{call_refused}
-use Rattle.vw_course.proofs.EveryPlace.{AreAmong, among_front, among_back, IsNoneOf, none_one, KeepsTo, keeps_stage, keeps_judged, keeps_made, keeps_more, no_refusal, no_break}
+use Rattle.vw_course.proofs.EveryPlace.{AreAmong, among_front, IsNoneOf, none_one, KeepsTo, keeps_stage, keeps_judged, keeps_made, keeps_more, no_refusal, no_break}
 use Rattle.vw_course.proofs.Fronts.{IsFront, MayHave, file_front, both_fronts, front_as, file_table}
 use Rattle.vw_course.proofs.StageLaws.{past, past_judged, past_made, at_bad, refused_past, stage_behind, judged_behind, made_behind, works_behind, refusal_behind, refused_for}
 use Rattle.vw_course.proofs.BarredLaws.{barred_here, barred_later, call_barred}
@@ -28,7 +28,6 @@ use Rattle.vw_plantext.specs.PlanText.{Spells as SpellsPlan}
 use Rattle.vw_plantext.specs.ChipsText.{SpellsChips}
 use Rattle.vw_plantext.proofs.OnePlan.{spelled_once}
 use Rattle.vw_plantext.proofs.OneChips.{chips_once}
-use Rattle.vw_check.specs.declared.fault.PlanFault.{PlanFault}
 use Rattle.vw_check.specs.Answers.{HasPlace}
 use Rattle.vw_check.specs.Faults.{plan_fault, chips_fault}
 use Rattle.vw_check.proofs.SoundPlans.{sound, faultless}
@@ -43,7 +42,7 @@ use Rattle.vw_courses.specs.Kinds.{netlist_kind, board_kind, plan_kind, chips_ki
 use Rattle.vw_courses.specs.Commands.{Rest, sound_then, placed_then, plan_then, on_board_course, ready_course}
 use Rattle.vw_courses.specs.OnBoards.{IsNoBoard, AreSpelledOn}
 use Rattle.vw_courses.specs.MayPlan.{PlanBy, made_here, of_file, for_chips, IsPlanBy, MaySpell}
-use Rattle.vw_statuses.specs.PlannedStatuses.{PlanTexts, IsPlanOf, AreSpelled, On, HaveNoRoom, HasPlanFault, IsUnsound, HasChipsFault, HaveNoPlace, IsNoFit, IsNoPlan, AreNoChips, HavePlan, plan_status, plan_statuses, HoldsGiven, HoldTexts, with_given, its_board, its_files, ByPlan, DesignRuns, PlannedStatuses}
+use Rattle.vw_statuses.specs.PlannedStatuses.{PlanTexts, IsPlanOf, AreSpelled, On, IsUnsound, HaveNoPlace, IsNoFit, IsNoPlan, AreNoChips, HavePlan, plan_status, plan_statuses, HoldsGiven, HoldTexts, with_given, its_board, its_files, ByPlan, DesignRuns, PlannedStatuses}
 use Rattle.vw_statuses.proofs.DesignLaws.{design_table}
 use Rattle.vw_statuses.proofs.OnBoards.{netlist_same, no_room_same, has_room_same}
 

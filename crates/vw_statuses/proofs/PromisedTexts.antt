@@ -1,25 +1,24 @@
 -- What each command has written where it ends with status 0, from its table.
-use Rattle.std.proofs.Common.{◌≡◌, ◌⊎◌, ◌∙◌, ℕ, Bool, List, [], length, sym, ap, inl, inr, arith}
+use Rattle.std.proofs.Common.{◌≡◌, ◌∙◌, ℕ, List, [], ap}
 use Rattle.vw_net.specs.declared.ordered.Ordered.{Ordered}
 use Rattle.vw_design.specs.Paths.{Word}
-use Rattle.vw_outside.specs.Told.{Told, held}
 use Rattle.vw_outside.specs.Writes.{appended}
 use Rattle.vw_course.specs.Outside.{SeenOutside}
 use Rattle.vw_course.specs.Course.{writes}
 use Rattle.vw_course.specs.Endings.{IsCallOf}
-use Rattle.vw_course.specs.Statuses.{Holds, IsDone, IsWriteStop, IsMemoryStop}
+use Rattle.vw_course.specs.Statuses.{IsDone}
 use Rattle.vw_course.proofs.CallTable.{call_table}
 use Rattle.vw_plan.specs.declared.board.Board.{Board}
 use Rattle.vw_plan.specs.declared.plan.Plan.{Plan}
 use Rattle.vw_courses.specs.Messages.{vocabulary, Call, CallWork}
-use Rattle.vw_courses.specs.Commands.{Scripts, course_of, grade_course, nets_course, netlist_state, netlist_trace, plan_rest, resume_course, saved_of, size_rest, trace_of, usage_course, wave_of, check_course, plan_course, sim_course, wave_course, run_course, save_course, emit_course, demo_course}
+use Rattle.vw_courses.specs.Commands.{course_of, netlist_state, plan_rest, saved_of, size_rest, trace_of, usage_course, wave_of}
 use Rattle.vw_courses.specs.MayPlan.{PlanBy, made_here, of_file, for_chips, by_file, by_chips}
 use Rattle.vw_courses.specs.Words.{Spelled}
 use Rattle.vw_courses.specs.Words as words
-use Rattle.vw_courses.proofs.TextsOfDesigns.{saved_agree, traces_agree}
+use Rattle.vw_courses.proofs.TextsOfDesigns.{saved_agree}
 use Rattle.vw_statuses.specs.EmittedBoards.{BoardsShow}
 use Rattle.vw_statuses.specs.PlannedStatuses.{PlanTexts, HoldTexts}
-use Rattle.vw_statuses.specs.Promises.{AreHeld, Promise, WritesGrading, WritesNetlist, WritesPlanned, WritesResumed}
+use Rattle.vw_statuses.specs.Promises.{AreHeld, Promise, WritesPlanned}
 use Rattle.vw_statuses.specs.WrittenStatuses.{AlwaysFits, IsWritten, plan_text, size_text}
 use Rattle.vw_statuses.proofs.DemoLaws.{demo_table}
 use Rattle.vw_statuses.proofs.EmitLaws.{emit_table}

@@ -31,13 +31,13 @@ use Rattle.vw_courses.specs.declared.vocabulary.File.TheVariants as kinds
 use Rattle.vw_courses.specs.declared.vocabulary.Reason.{Reason}
 use Rattle.vw_courses.specs.declared.vocabulary.Reason.TheVariants as reasons
 use Rattle.vw_courses.specs.Messages.{reason_status, vocabulary, Call, CallWork}
-use Rattle.vw_courses.specs.Kinds.{rows_kind, state_kind, IsStateOf, IsBadState, IsRowsOf, AreTooManyClocks, clocks_fit}
+use Rattle.vw_courses.specs.Kinds.{rows_kind, state_kind, IsStateOf, IsBadState, AreTooManyClocks, clocks_fit}
 use Rattle.vw_courses.specs.Commands.{Scripts, RowCheck, check_by, trace_course, with_check, checked_rows_course, scripts_from, state_course, resume_rest, ready_course}
-use Rattle.vw_courses.specs.MayPlan.{PlanBy, MaySpell}
-use Rattle.vw_statuses.specs.PlannedStatuses.{PlanTexts, HavePlan, plan_statuses, with_given, HoldTexts}
+use Rattle.vw_courses.specs.MayPlan.{PlanBy}
+use Rattle.vw_statuses.specs.PlannedStatuses.{PlanTexts, HavePlan, plan_statuses, HoldTexts}
 use Rattle.vw_statuses.specs.TracedStatuses.{Subject, IsTrace, TracedStatuses}
 use Rattle.vw_statuses.specs.TracedStatuses as traced
-use Rattle.vw_statuses.specs.ResumeStatuses.{ResumeTexts, Resumption, AreResumed, trace_from_state, IsNoState, resumptions, up_to_state, its_files, MayResume, UsesFrom, IsReadyPlan, IsReady, AreTooMany, MayBeTooMany, CarriesFrom, ResumeStatuses}
+use Rattle.vw_statuses.specs.ResumeStatuses.{ResumeTexts, Resumption, AreResumed, trace_from_state, IsNoState, resumptions, up_to_state, its_files, UsesFrom, IsReadyPlan, IsReady, AreTooMany, MayBeTooMany, CarriesFrom, ResumeStatuses}
 use Rattle.vw_statuses.proofs.OnBoards.{netlist_same}
 use Rattle.vw_statuses.proofs.TracedLaws.{ComesToRows, keeps_rows, barred_rows, same_rows, traced_table}
 use Rattle.vw_statuses.proofs.PlannedLaws.{IsAmong, Planned, given_among, other_among, none_planned, apart_from, Has, Spelled, front, ready_front, IsRest, keeps_all, work_planned, planned_table}

@@ -1,5 +1,5 @@
 -- What each status says of a command that runs a design on a board over a stimulus.
-use Rattle.std.proofs.Common.{◌≡◌, ◌≤◌, ◌++◌, ℕ, Bool, List, [], ◌∷◌, length, refl, sym, subst, inl, inr, arith}
+use Rattle.std.proofs.Common.{◌≤◌, ◌++◌, ℕ, Bool, List, [], ◌∷◌, length, refl, sym, subst, inl, inr, arith}
 use Rattle.vw_design.specs.Paths.{Word}
 use Rattle.vw_net.specs.declared.ordered.Ordered.{Ordered}
 use Rattle.vw_outside.specs.Told.{Told}
@@ -22,7 +22,7 @@ use Rattle.vw_courses.specs.Commands.{TextOver, Scripts, no_check, ready_course,
 use Rattle.vw_courses.specs.MayPlan.{PlanBy, made_here, of_file, for_chips, IsPlanBy, MaySpell}
 use Rattle.vw_courses.proofs.FlatTraces.{probes_counted}
 use Rattle.vw_courses.proofs.TextsOfDesigns.{IsTextOfDesigns, of_design, of_netlist}
-use Rattle.vw_statuses.specs.PlannedStatuses.{PlanTexts, IsPlanOf, AreSpelled, HavePlan, plan_statuses, with_given, HoldsGiven, HoldTexts}
+use Rattle.vw_statuses.specs.PlannedStatuses.{PlanTexts, IsPlanOf, AreSpelled, HavePlan, plan_statuses, HoldsGiven, HoldTexts}
 use Rattle.vw_statuses.specs.RunStatuses.{its_files, IsReady, RunStatuses}
 use Rattle.vw_statuses.specs.TracedStatuses.{designs, TracedStatuses}
 use Rattle.vw_statuses.specs.LinkTraffic.{UsesBoard}

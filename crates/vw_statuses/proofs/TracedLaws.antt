@@ -1,5 +1,5 @@
 -- What each status says of a command that runs something over the rows of a stimulus, and writes a text of this run.
-use Rattle.std.proofs.Common.{◌≡◌, ◌≢◌, ◌⊎◌, ℕ, Bool, List, [], ◌∷◌, Ok, refl, sym, ◌∙◌, ap, subst, inl, inr, ⊎_elim, lit<, arith}
+use Rattle.std.proofs.Common.{◌≡◌, ◌⊎◌, ℕ, Bool, List, [], ◌∷◌, Ok, refl, sym, ap, subst, inl, inr, ⊎_elim, lit<, arith}
 use Rattle.vw_outside.specs.Told.{Told, untold, absent, held}
 use Rattle.vw_course.specs.Course.{Course}
 use Rattle.vw_course.specs.Follows.{May, IsDoneBy}

@@ -1,6 +1,6 @@
 -- What each status says of a command that writes a text of a planned board, or refuses where the text doesn't fit: `check`,
 -- `plan`, and `emit`.
-use Rattle.std.proofs.Common.{◌≡◌, ◌≤◌, ◌++◌, ℕ, List, [], ◌∷◌, length, refl, ap, inl, inr}
+use Rattle.std.proofs.Common.{◌≡◌, ◌≤◌, ◌++◌, ℕ, List, [], length, refl, ap, inl, inr}
 use Rattle.vw_net.specs.declared.ordered.Ordered.{Ordered}
 use Rattle.vw_design.specs.Paths.{Word}
 use Rattle.vw_outside.specs.Told.{Told}

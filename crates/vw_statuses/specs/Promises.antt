@@ -1,6 +1,6 @@
 -- What each command has written where it ends with status 0, by its words and its files alone: no course, no message and no other
 -- status is spoken of.
-use Rattle.std.specs.Prelude.{◌≡◌, ℕ, Bool, List, [], length}
+use Rattle.std.specs.Prelude.{◌≡◌, ℕ, Bool, List, []}
 use Rattle.vw_net.specs.declared.ordered.Ordered.{Ordered}
 use Rattle.vw_design.specs.Paths.{Word}
 use Rattle.vw_front.specs.declared.named.NamedNetlist.{NamedNetlist}
@@ -9,7 +9,7 @@ use Rattle.vw_outside.specs.Told.{Told, held}
 use Rattle.vw_outside.specs.Writes.{SeenSink, appended}
 use Rattle.vw_plan.specs.declared.board.Board.{Board}
 use Rattle.vw_plan.specs.declared.plan.Plan.{Plan}
-use Rattle.vw_courses.specs.Commands.{grading_of, nets_text, saved_of, trace_of, wave_of}
+use Rattle.vw_courses.specs.Commands.{grading_of, nets_text, saved_of, wave_of}
 use Rattle.vw_courses.specs.Help.{help_text, version_text}
 use Rattle.vw_courses.specs.Kinds.{IsRowsOf}
 use Rattle.vw_courses.specs.MayPlan.{PlanBy, made_here, of_file, for_chips, by_file, by_chips}

@@ -1,28 +1,25 @@
 -- What the links of a planned board carry, by the number of workers.
-use Rattle.std.proofs.Common.{◌≡◌, ◌<◌, ◌≤◌, ℕ, Bool, true, false, List, length, take, Option, Some, None, if◌then◌else◌, refl, sym, ◌∙◌, ap, subst, arith}
+use Rattle.std.proofs.Common.{◌≡◌, ◌<◌, ◌≤◌, ℕ, Bool, true, false, List, length, take, Some, None, if◌then◌else◌, refl, sym, ◌∙◌, ap, subst, arith}
 use Rattle.std.specs.Prelude.{ltb}
 use Rattle.std.proofs.Math.Path.{fun_ext}
 use Rattle.std.proofs.lemmas.Bool.{lt-ltb, le-ltb, ltb-true, ltb-false}
-use Rattle.vw_design.specs.Paths.{Word as ProbeWord}
-use Rattle.vw_front.specs.Designs.{WatchedDesign}
 use Rattle.vw_net.specs.Cells.{start_values}
 use Rattle.vw_net.specs.declared.ordered.Ordered.{Ordered}
 use Rattle.vw_outside.specs.Reads.{SeenShelf}
 use Rattle.vw_outside.specs.Writes.{SeenSink}
 use Rattle.vw_course.specs.declared.outside.Outside.{Outside}
-use Rattle.vw_course.specs.Outside.{SeenOutside, Carried, carried, fronts}
+use Rattle.vw_course.specs.Outside.{Carried, fronts}
 use Rattle.vw_course.specs.Course.{Course}
 use Rattle.vw_course.specs.Follows.{Answer}
 use Rattle.vw_course.specs.Goes.{GoesOver}
-use Rattle.vw_course.specs.Statuses.{IsDone}
 use Rattle.vw_plan.specs.declared.board.Board.{Board}
 use Rattle.vw_plan.specs.declared.plan.Plan.{Plan}
 use Rattle.vw_plan.specs.PlannedBoard.{PlannedBoard, planned_board}
 use Rattle.vw_prog.specs.declared.word.Word.{Word}
 use Rattle.vw_batches.specs.Traffic.{words_from}
 use Rattle.vw_batches.proofs.LinkWords.{words_of_front}
-use Rattle.vw_courses.specs.Messages.{vocabulary, Call, CallWork}
-use Rattle.vw_courses.specs.Commands.{TextOver, Scripts, no_links, netlist_course, scripts_from, board_scripts, board_course}
+use Rattle.vw_courses.specs.Messages.{vocabulary}
+use Rattle.vw_courses.specs.Commands.{TextOver, Scripts, no_links, netlist_course, scripts_from, board_course}
 use Rattle.vw_top.proofs.StreamedTraces.{HaveParts}
 
 -- ---- how many workers there are

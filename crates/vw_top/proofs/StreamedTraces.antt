@@ -1,9 +1,7 @@
 -- The trace that is written while the stimulus is read again, as the end of a course.
 use Rattle.std.proofs.Common.{◌≡◌, ℕ, Bool, List, length, take, Option, Result, Ok, Err, refl, sym, ◌∙◌, ap, ap₂, subst}
-use Rattle.std.proofs.Math.Path.{fun_ext}
 use Rattle.vw_net.specs.declared.ordered.Ordered.{Ordered}
 use Rattle.vw_design.specs.Flattened.{IsFlatOf}
-use Rattle.vw_design.specs.Paths.{Word as ProbeWord}
 use Rattle.vw_front.specs.Designs.{WatchedDesign}
 use Rattle.vw_outside.specs.Told.{Told, untold, absent, held, IsTextOf}
 use Rattle.vw_outside.specs.Reads.{SeenShelf}
@@ -31,7 +29,7 @@ use Rattle.vw_courses.specs.declared.vocabulary.File.TheVariants as files
 use Rattle.vw_courses.specs.declared.vocabulary.Reason.{Reason}
 use Rattle.vw_courses.specs.Messages.{vocabulary, CallWork}
 use Rattle.vw_courses.specs.Kinds.{rows_kind, IsBadStimulus, IsBadAgain}
-use Rattle.vw_courses.specs.Commands.{trace_of, netlist_trace, saved_of, netlist_state, TextOver, Scripts, no_links, tracing, IsSomeTrace, trace_course, RowCheck, no_check, check_by, with_check, checked_rows_course, rows_course, design_course, netlist_course}
+use Rattle.vw_courses.specs.Commands.{TextOver, Scripts, no_links, tracing, IsSomeTrace, trace_course, RowCheck, no_check, check_by, with_check, checked_rows_course, design_course, netlist_course}
 use Rattle.vw_top.specs.Stages.{run_answer}
 use Rattle.vw_courses.proofs.TextsOfDesigns.{of_design}
 use Rattle.vw_courses.proofs.RowChecks.{PassCheck, FailCheck}

@@ -1,12 +1,12 @@
-use Rattle.std.proofs.Common.{◌≡◌, ◌≢◌, ◌<◌, ◌≤◌, ◌∙◌, ℕ, List, [], ◌∷◌, ◌++◌, length, get_or, ap, refl, sym, subst, arith}
+use Rattle.std.proofs.Common.{◌≡◌, ◌<◌, ◌≤◌, ◌∙◌, ℕ, List, [], ◌∷◌, ◌++◌, length, get_or, ap, refl, sym, subst, arith}
 use Rattle.std.proofs.lemmas.List.{get_or_default}
 use Rattle.vw_part.specs.declared.load.Load.{Load}
 use Rattle.vw_part.specs.Steps.Deals.{cell_nets_at}
 use Rattle.vw_part.specs.Steps.Gains.{AreGains, lone_among}
 use Rattle.vw_part.specs.Steps.CellNets.{times_among}
-use Rattle.vw_part.proofs.Dealing.{HasCellMore, dealt_more, loaded}
+use Rattle.vw_part.proofs.Dealing.{HasCellMore, MayPut, dealt_more, loaded}
 use Rattle.vw_part.proofs.ChipLoads.{held-le}
-use Rattle.vw_part.proofs.KeptDeals.{gains_at, gains_come, keeps_come, pushed_here, pushed_other}
+use Rattle.vw_part.proofs.KeptDeals.{HasCome, StayOff, gains_at, gains_come, keeps_come, pushed_here, pushed_other}
 use Rattle.vw_part.proofs.KeptGains.{few_own}
 use Rattle.vw_part.proofs.deal.Deal.put.Goals as goal
 
@@ -33,10 +33,14 @@ add-requires-clause-gains c =
     let gains = gains_at deal c.args.chip load c.requires.chip.1 c.index_mut-load.ensures.value in
     let next : c.len-cell.result ≡ length chips = omega (arith, c.len-cell.ensures, deal.chip_of.ok) in
     gains_come deal.cell_nets.now chips c.as_slice.result.now c.len-cell.result c.args.chip c.lone.result load deal.freed.counts.items c.set.new.self.counts.items gains
-    (omega (arith, next, c.requires.next, gains.freed_long))
-    (λ other apart. ap (λ (l : List ℕ). get_or l other 0) (c.as_slice.ensures.value ∙ c.in_ok-push.ensures.items) ∙ pushed_other chips c.args.chip other (λ same. apart (next ∙ same)))
-    (c.lone.ensures ∙ ap (λ (nets : List ℕ). lone_among (λ net. get_or load.held.counts.items net 0) nets) c.at-own.ensures)
-    c.set.ensures
+    (record {
+      within = omega (arith, next, c.requires.next, gains.freed_long);
+      others = λ other apart.
+          let pushed = ap (λ (l : List ℕ). get_or l other 0) (c.as_slice.ensures.value ∙ c.in_ok-push.ensures.items) in
+          pushed ∙ pushed_other chips c.args.chip other (λ same. apart (next ∙ same));
+      count = c.lone.ensures ∙ ap (λ (nets : List ℕ). lone_among (λ net. get_or load.held.counts.items net 0) nets) c.at-own.ensures;
+      written = c.set.ensures;
+    })
 
 pub invariant_of-self-2 : goal.invariant_of-self-2
 invariant_of-self-2 c =
@@ -55,13 +59,20 @@ invariant_of-self-2 c =
     let found : old ≡ get_or loads chip new = c.index_mut-load.ensures.value ∙ get_or_default loads chip old new within in
     let raw : HasCellMore c.at-own.result.now old new = record { cells = c.add.ensures.cells; long = c.add.ensures.long; counts = c.add.ensures.held } in
     let more : HasCellMore (cell_nets_at cell_nets (length chips)) (get_or loads chip new) new = subst (λ (nets : List ℕ). HasCellMore nets (get_or loads chip new) new) own (subst (λ (load : Load). HasCellMore c.at-own.result.now load new) found raw) in
+    let may : MayPut deal.board.now cell_nets chips chip = record { next = c.requires.next; real = c.requires.chip; room = c.requires.room } in
+    let came : HasCome cell_nets chips c.push.new.self.items frees c.set.new.self.counts.items after c.len-cell.result chip c.lone.result new = record {
+      here = subst (λ (l : List ℕ). AreGains cell_nets l chip new after) c.as_slice.ensures.value c.add.ensures.gains;
+      long = c.add.ensures.gains.freed_long ∙ sym (deal.gains chip new c.requires.chip.1).freed_long;
+      comes =
+          ap (λ (l : List ℕ). get_or l c.len-cell.result 0) c.in_ok-push.ensures.items
+          ∙ ap (λ (x : ℕ). get_or (chips ++ chip ∷ []) x 0) next
+          ∙ pushed_here chips chip;
+      chips_stay = λ other apart.
+          ap (λ (l : List ℕ). get_or l other 0) c.in_ok-push.ensures.items ∙ pushed_other chips chip other (λ same. apart (next ∙ same));
+      written = c.set.ensures;
+      others = subst (λ (l : List ℕ). StayOff chip l c.set.new.self.counts.items after) c.as_slice.ensures.value c.add.ensures.others;
+    } in
     record {
-      is = dealt_more deal.board.now cell_nets chips _ loads _ chip new deal.is c.requires.next c.requires.chip c.requires.room c.in_ok-push.ensures.items refl more;
-      gains = keeps_come deal.board.now cell_nets chips c.push.new.self.items loads frees c.set.new.self.counts.items after c.len-cell.result chip c.lone.result new deal.gains within
-          (subst (λ (l : List ℕ). AreGains cell_nets l chip new after) c.as_slice.ensures.value c.add.ensures.gains)
-          (c.add.ensures.gains.freed_long ∙ sym (deal.gains chip new c.requires.chip.1).freed_long)
-          (ap (λ (l : List ℕ). get_or l c.len-cell.result 0) c.in_ok-push.ensures.items ∙ ap (λ (x : ℕ). get_or (chips ++ chip ∷ []) x 0) next ∙ pushed_here chips chip)
-          (λ other apart. ap (λ (l : List ℕ). get_or l other 0) c.in_ok-push.ensures.items ∙ pushed_other chips chip other (λ same. apart (next ∙ same)))
-          c.set.ensures
-          (subst (λ (l : List ℕ). (cell : ℕ) → get_or l cell 0 ≢ chip → get_or after cell 0 ≡ get_or c.set.new.self.counts.items cell 0) c.as_slice.ensures.value c.add.ensures.others);
+      is = dealt_more deal.board.now cell_nets chips loads chip new deal.is may more _ _ c.in_ok-push.ensures.items refl;
+      gains = keeps_come deal.board.now cell_nets chips _ loads frees _ after c.len-cell.result chip c.lone.result new deal.gains within came;
     }

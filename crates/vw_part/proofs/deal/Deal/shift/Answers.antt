@@ -1,4 +1,4 @@
-use Rattle.std.proofs.Common.{◌≡◌, ◌≢◌, ◌<◌, ◌≤◌, ◌∙◌, ℕ, List, [], length, get_or, set, ap, refl, sym, subst, arith}
+use Rattle.std.proofs.Common.{◌≡◌, ◌<◌, ◌≤◌, ◌∙◌, ℕ, List, [], length, get_or, set, ap, refl, sym, subst, arith}
 use Rattle.std.proofs.lemmas.List.{get_or-set_other, get_or-set_same, get_or_default, length-set}
 use Rattle.std.proofs.lemmas.List.Elements.{All-get_or}
 use Rattle.vw_plan.specs.Chips.{IsChip}
@@ -9,7 +9,7 @@ use Rattle.vw_part.specs.Steps.Gains.{AreGains, lone_among}
 use Rattle.vw_part.specs.Steps.CellNets.{times_among}
 use Rattle.vw_part.proofs.Dealing.{HasCellMore, dealt_moved, loaded}
 use Rattle.vw_part.proofs.ChipLoads.{held-le, held_least}
-use Rattle.vw_part.proofs.KeptDeals.{gains_at, gains_between, gains_come, keeps_come}
+use Rattle.vw_part.proofs.KeptDeals.{HasCome, StayOff, gains_at, gains_between, gains_come, keeps_come}
 use Rattle.vw_part.proofs.KeptGains.{few_own}
 use Rattle.vw_part.proofs.deal.Deal.shift.Goals as goal
 
@@ -60,10 +60,14 @@ add-requires-clause-gains c =
     let between = gains_between deal from c.remove.new.self c.remove.new.freed.counts.items c.as_slice.result.now low c.as_slice.ensures.value c.remove.ensures.gains c.remove.ensures.others in
     let gains : AreGains deal.cell_nets.now deal.chip_of.items c.args.chip load c.remove.new.freed.counts.items = subst (λ (x : Load). AreGains deal.cell_nets.now deal.chip_of.items c.args.chip x c.remove.new.freed.counts.items) (sym c.index_mut-joined.ensures.value) (between c.args.chip load c.requires.target.real.1) in
     gains_come deal.cell_nets.now deal.chip_of.items c.as_slice-2.result.now c.args.cell c.args.chip c.lone-lone.result load c.remove.new.freed.counts.items c.set.new.self.counts.items gains
-    (omega (arith, c.requires.cell, deal.is.few, gains.freed_long))
-    (λ other apart. ap (λ (l : List ℕ). get_or l other 0) c.as_slice-2.ensures.value ∙ get_or-set_other deal.chip_of.items c.args.cell other c.args.chip 0 (λ same. apart (sym same)))
-    (c.lone-lone.ensures ∙ ap (λ (nets : List ℕ). lone_among (λ net. get_or load.held.counts.items net 0) nets) c.at-own.ensures)
-    c.set.ensures
+    (record {
+      within = omega (arith, c.requires.cell, deal.is.few, gains.freed_long);
+      others = λ other apart.
+          let moved = ap (λ (l : List ℕ). get_or l other 0) c.as_slice-2.ensures.value in
+          moved ∙ get_or-set_other deal.chip_of.items c.args.cell other c.args.chip 0 (λ same. apart (sym same));
+      count = c.lone-lone.ensures ∙ ap (λ (nets : List ℕ). lone_among (λ net. get_or load.held.counts.items net 0) nets) c.at-own.ensures;
+      written = c.set.ensures;
+    })
 
 pub invariant_of-self : goal.invariant_of-self
 invariant_of-self c =
@@ -90,15 +94,19 @@ invariant_of-self c =
     let raw : HasCellMore own old new = record { cells = c.add.ensures.cells; long = c.add.ensures.long; counts = c.add.ensures.held } in
     let less : HasCellMore (cell_nets_at cell_nets cell) new_from (get_or loads (get_or chips cell 0) new_from) = subst (λ (nets : List ℕ). HasCellMore nets new_from (get_or loads (get_or chips cell 0) new_from)) c.at-own.ensures (subst (λ (load : Load). HasCellMore own new_from load) found_from raw_less) in
     let more : HasCellMore (cell_nets_at cell_nets cell) (get_or loads chip new) new = subst (λ (nets : List ℕ). HasCellMore nets (get_or loads chip new) new) c.at-own.ensures (subst (λ (load : Load). HasCellMore own load new) found raw) in
+    let written = ap (λ (x : ℕ). set (set loads x new_from) chip new) from in
     let between = gains_between deal c.index-from.result.now new_from between_frees c.as_slice.result.now low c.as_slice.ensures.value c.remove.ensures.gains c.remove.ensures.others in
+    let came : HasCome cell_nets chips (set chips cell chip) between_frees c.set.new.self.counts.items after cell chip c.lone-lone.result new = record {
+      here = subst (λ (l : List ℕ). AreGains cell_nets l chip new after) c.as_slice-2.ensures.value c.add.ensures.gains;
+      long = c.add.ensures.gains.freed_long ∙ sym c.remove.ensures.gains.freed_long;
+      comes = get_or-set_same chips cell chip 0 c.requires.cell;
+      chips_stay = λ other apart. get_or-set_other chips cell other chip 0 (λ same. apart (sym same));
+      written = c.set.ensures;
+      others = subst (λ (l : List ℕ). StayOff chip l c.set.new.self.counts.items after) c.as_slice-2.ensures.value c.add.ensures.others;
+    } in
+    let loads_between = set loads c.index-from.result.now new_from in
+    let within_between : chip < length loads_between = omega (arith, within, length-set loads c.index-from.result.now new_from) in
     record {
-      is = dealt_moved deal.board.now cell_nets chips _ loads _ cell chip new_from new deal.is c.requires.cell c.requires.target refl (ap (λ (x : ℕ). set (set loads x new_from) chip new) from) less more;
-      gains = keeps_come deal.board.now cell_nets chips (set chips cell chip) (set loads c.index-from.result.now new_from) between_frees c.set.new.self.counts.items after cell chip c.lone-lone.result new between
-          (omega (arith, within, length-set loads c.index-from.result.now new_from))
-          (subst (λ (l : List ℕ). AreGains cell_nets l chip new after) c.as_slice-2.ensures.value c.add.ensures.gains)
-          (c.add.ensures.gains.freed_long ∙ sym c.remove.ensures.gains.freed_long)
-          (get_or-set_same chips cell chip 0 c.requires.cell)
-          (λ other apart. get_or-set_other chips cell other chip 0 (λ same. apart (sym same)))
-          c.set.ensures
-          (subst (λ (l : List ℕ). (cell : ℕ) → get_or l cell 0 ≢ chip → get_or after cell 0 ≡ get_or c.set.new.self.counts.items cell 0) c.as_slice-2.ensures.value c.add.ensures.others);
+      is = dealt_moved deal.board.now cell_nets chips loads cell chip new_from new deal.is c.requires.cell c.requires.target less more _ _ refl written;
+      gains = keeps_come deal.board.now cell_nets chips (set chips cell chip) loads_between between_frees _ after cell chip c.lone-lone.result new between within_between came;
     }

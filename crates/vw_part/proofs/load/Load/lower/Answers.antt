@@ -13,11 +13,21 @@ add_on-requires-clause-fits c = λ cell on. freed_fits _ _ _ _ _ _ _ cell c.requ
 
 -- the last cell of the chip that had the net
 pub returns-then-count-eq1-clause-gains : goal.returns-then-count-eq1-clause-gains
-returns-then-count-eq1-clause-gains c = last_left _ _ _ _ _ _ _ _ _ _ c.requires.gains c.cells_of-cells.ensures (omega arith) c.set.ensures (sym c.at-count.ensures ∙ c.if-count-eq1.true) (omega arith) c.take.ensures.long c.take.ensures.counts c.take_on.ensures.long c.take_on.ensures.counts
+returns-then-count-eq1-clause-gains c =
+    last_left _ _ _ _ _ _ _ _ _ _ c.requires.gains c.cells_of-cells.ensures (omega arith) c.set.ensures
+    (sym c.at-count.ensures ∙ c.if-count-eq1.true)
+    (omega arith)
+    (record { long = c.take.ensures.long; counts = c.take.ensures.counts })
+    (record { long = c.take_on.ensures.long; counts = c.take_on.ensures.counts })
 
 -- the last but one
 pub returns-then-count-eq2-clause-gains : goal.returns-then-count-eq2-clause-gains
-returns-then-count-eq2-clause-gains c = one_left_there _ _ _ _ _ _ _ _ _ _ c.requires.gains c.cells_of-cells.ensures (omega arith) c.set.ensures (sym c.at-count.ensures ∙ c.if-count-eq2.true) (omega arith) refl c.add_on.ensures.long c.add_on.ensures.counts
+returns-then-count-eq2-clause-gains c =
+    one_left_there _ _ _ _ _ _ _ _ _ _ c.requires.gains c.cells_of-cells.ensures (omega arith) c.set.ensures
+    (sym c.at-count.ensures ∙ c.if-count-eq2.true)
+    (omega arith)
+    refl
+    (record { long = c.add_on.ensures.long; counts = c.add_on.ensures.counts })
 
 -- one of many
 pub returns-else-count-eq2-clause-gains : goal.returns-else-count-eq2-clause-gains

@@ -13,11 +13,21 @@ take_on-requires-clause-there c = λ cell on. freed_there _ _ _ _ _ _ _ cell c.r
 
 -- the first cell of the chip that has the net
 pub returns-then-count-eq0-clause-gains : goal.returns-then-count-eq0-clause-gains
-returns-then-count-eq0-clause-gains c = first_came _ _ _ _ _ _ _ _ _ _ c.requires.gains c.cells_of-cells.ensures (omega arith) c.set.ensures (sym c.at-count.ensures ∙ c.if-count-eq0.true) (omega arith) c.add.ensures.long c.add.ensures.counts c.add_on.ensures.long c.add_on.ensures.counts
+returns-then-count-eq0-clause-gains c =
+    first_came _ _ _ _ _ _ _ _ _ _ c.requires.gains c.cells_of-cells.ensures (omega arith) c.set.ensures
+    (sym c.at-count.ensures ∙ c.if-count-eq0.true)
+    (omega arith)
+    (record { long = c.add.ensures.long; counts = c.add.ensures.counts })
+    (record { long = c.add_on.ensures.long; counts = c.add_on.ensures.counts })
 
 -- the second one
 pub returns-then-count-eq1-clause-gains : goal.returns-then-count-eq1-clause-gains
-returns-then-count-eq1-clause-gains c = second_came _ _ _ _ _ _ _ _ _ _ c.requires.gains c.cells_of-cells.ensures (omega arith) c.set.ensures (sym c.at-count.ensures ∙ c.if-count-eq1.true) (omega arith) refl c.take_on.ensures.long c.take_on.ensures.counts
+returns-then-count-eq1-clause-gains c =
+    second_came _ _ _ _ _ _ _ _ _ _ c.requires.gains c.cells_of-cells.ensures (omega arith) c.set.ensures
+    (sym c.at-count.ensures ∙ c.if-count-eq1.true)
+    (omega arith)
+    refl
+    (record { long = c.take_on.ensures.long; counts = c.take_on.ensures.counts })
 
 -- one of many
 pub returns-else-count-eq1-clause-gains : goal.returns-else-count-eq1-clause-gains
