@@ -1,5 +1,5 @@
-//! What the words of a command spell, and which course each command takes: the files that it reads, the reasons for which it
-//! refuses, and what it writes.
+//! What the words of a command spell, and which course each command takes: the files that it reads, the reasons for
+//! which it refuses, and what it writes. In the field: a grammar of command lines, and a specification of each command.
 #![tactic(auto)]
 
 mod forms;

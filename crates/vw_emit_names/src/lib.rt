@@ -1,4 +1,5 @@
-//! Emitted boards as designs: their names, drivers and faults, and what they show.
+//! Emitted boards as designs: their names, drivers and faults, and what they show. In the field: equivalence of a
+//! netlist and its source, by proof in place of search.
 #![tactic(auto)]
 
 mod laws;

@@ -1,4 +1,5 @@
-//! The text of an emitted board, as the models of the board in print.
+//! The text of an emitted board, as the models of the board in print. In the field: the round trip of a printer and a
+//! parser.
 #![tactic(auto)]
 
 mod laws;

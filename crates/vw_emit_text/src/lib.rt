@@ -1,5 +1,5 @@
-//! Writes a planned board as a design in BLIF: each node is a model with a sequencer, its cells, a register for each hop that
-//! reaches it and, for each pin that leaves it, what chooses the bit.
+//! Writes a planned board as a design in BLIF: each node is a model with a sequencer, its cells, a register for each hop
+//! that reaches it and, for each pin that leaves it, what chooses the bit. In the field: netlist generation.
 #![tactic(auto)]
 
 mod cells;

@@ -1,4 +1,5 @@
-//! An example of a caller: it runs a design over a stimulus, both as texts in memory, and knows what it got.
+//! An example of a caller: it runs a design over a stimulus, both as texts in memory, and knows what it got. In the
+//! field: a client, verified against its library.
 #![tactic(auto)]
 
 ghost use Rattle.std.specs.Prelude.{◌≡◌, IfOk};

@@ -1,4 +1,4 @@
-//! Netlists as texts that other tools read.
+//! Netlists as texts that other tools read. In the field: a netlist writer.
 #![tactic(auto)]
 
 mod lines;

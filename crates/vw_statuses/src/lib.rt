@@ -1,4 +1,5 @@
-//! What each status of a command says, as laws on the courses of commands: when it comes, what it means, and what it leaves.
+//! What each status of a command says, as laws on the courses of commands: when it comes, what it means, and what it
+//! leaves. In the field: postconditions, by exit status.
 #![tactic(auto)]
 
 mod statuses;

@@ -1,4 +1,5 @@
-//! The commands of Virtual Wires: what they read, what they write, and how they end.
+//! The commands of Virtual Wires: what they read, what they write, and how they end. In the field: the driver of a
+//! compiler.
 #![tactic(auto)]
 
 mod board_files;

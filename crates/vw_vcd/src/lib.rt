@@ -1,5 +1,5 @@
-//! Waves: what signals do, clock by clock, as a value change dump of IEEE 1364 for a viewer of waveforms. Only changes are
-//! written, and only the values 0 and 1.
+//! Waves: what signals do, clock by clock, as a value change dump of IEEE 1364 for a viewer of waveforms. Only changes
+//! are written, and only the values 0 and 1. In the field: waveform dumping.
 #![tactic(auto)]
 
 mod changes;

@@ -1,4 +1,4 @@
-//! Waves of runs.
+//! Waves of runs. In the field: the recording of waveforms.
 #![tactic(auto)]
 
 mod laws;
