@@ -10,7 +10,8 @@ used_of-cond : (b : Bool) (x y : Option PinUse) → used_of (cond b x y) ≡ con
 used_of-cond true x y = refl
 used_of-cond false x y = refl
 
-next_of-cond : (at : ℕ) (b : Bool) (x y : Option PinUse) → next_microcycle at (cond b x y) ≡ cond b (next_microcycle at x) (next_microcycle at y)
+next_of-cond : (at : ℕ) (b : Bool) (x y : Option PinUse)
+    → next_microcycle at (cond b x y) ≡ cond b (next_microcycle at x) (next_microcycle at y)
 next_of-cond at true x y = refl
 next_of-cond at false x y = refl
 
@@ -30,7 +31,8 @@ pub listed : (found : Option PinUse) → 1 ≤ used_of found → IsSome found
 listed None some = absurd (omega arith)
 listed (Some pin_use) some = refl
 
-module _ (before after : PinUses) (link at : ℕ) (new : PinUse) (put : (key : ℕ × ℕ) → get is_same after key ≡ cond (is_same (link, at) key) (Some new) (get is_same before key)) where
+module _ (before after : PinUses) (link at : ℕ) (new : PinUse)
+    (put : (key : ℕ × ℕ) → get is_same after key ≡ cond (is_same (link, at) key) (Some new) (get is_same before key)) where
   pub used_put : (one other : ℕ) → used_at after one other ≡ (if link == one && at == other then new.used else used_at before one other)
   used_put one other = ap used_of (put (one, other)) ∙ used_of-cond (link == one && at == other) (Some new) (pin_use_at before one other)
 
@@ -39,8 +41,12 @@ module _ (before after : PinUses) (link at : ℕ) (new : PinUse) (put : (key : �
 
   -- as many pins are taken as before
   pub used_kept : new.used ≡ used_at before link at → (one other : ℕ) → used_at after one other ≡ used_at before one other
-  used_kept same one other = used_put one other ∙ settled (link == one && at == other) new.used (used_at before one other) (λ here. same ∙ same_key link at one other (used_at before) here)
+  used_kept same one other =
+      let kept_here = λ (here : (link == one && at == other) ≡ true). same ∙ same_key link at one other (used_at before) here in
+      used_put one other ∙ settled (link == one && at == other) new.used (used_at before one other) kept_here
 
   -- the next microcycles are those of before
   pub next_kept : new.next ≡ next_at before link at → (one other : ℕ) → next_at after one other ≡ next_at before one other
-  next_kept same one other = next_put one other ∙ settled (link == one && at == other) new.next (next_at before one other) (λ here. same ∙ same_key link at one other (next_at before) here)
+  next_kept same one other =
+      let kept_here = λ (here : (link == one && at == other) ≡ true). same ∙ same_key link at one other (next_at before) here in
+      next_put one other ∙ settled (link == one && at == other) new.next (next_at before one other) kept_here

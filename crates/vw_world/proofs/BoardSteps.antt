@@ -27,12 +27,17 @@ use Rattle.vw_world.proofs.Turns.{agree, ends_then, nodes_are}
 lefts_set : (job : Job) (first : ℕ) (states : List NodeState) (place : ℕ) (new default : NodeState) → place < length states
     → lefts job first (set states place new) + left job (first + place) (get_or states place default) ≡ lefts job first states + left job (first + place) new
 lefts_set job first [] place new default within = absurd (omega (arith, within))
-lefts_set job first (state ∷ states) zero new default within = let same : first + zero ≡ first = omega arith in omega (arith, ap (λ (node : ℕ). left job node state) same, ap (λ (node : ℕ). left job node new) same)
+lefts_set job first (state ∷ states) zero new default within =
+    let same : first + zero ≡ first = omega arith in
+    omega (arith, ap (λ (node : ℕ). left job node state) same, ap (λ (node : ℕ). left job node new) same)
 lefts_set job first (state ∷ states) (suc place) new default within =
     let same : first + suc place ≡ suc first + place = omega arith in
-    omega (arith, lefts_set job (suc first) states place new default (omega (arith, within)), ap (λ (node : ℕ). left job node (get_or states place default)) same, ap (λ (node : ℕ). left job node new) same)
+    let left_then = ap (λ (node : ℕ). left job node new) same in
+    let left_before = ap (λ (node : ℕ). left job node (get_or states place default)) same in
+    omega (arith, lefts_set job (suc first) states place new default (omega (arith, within)), left_before, left_then)
 
-module _ (job : Job) (nodes : List Node) (all : SeenLanes) (board : IsBoard job nodes all) (node : ℕ) (inside : node < length nodes) (turned : SeenLanes) (turned_is : turned ≡ record all { node = node }) (default : Node) where
+module _ (job : Job) (nodes : List Node) (all : SeenLanes) (board : IsBoard job nodes all) (node : ℕ) (inside : node < length nodes)
+    (turned : SeenLanes) (turned_is : turned ≡ record all { node = node }) (default : Node) where
   abbrev pub there : Node
   there = get_or nodes node default
 
@@ -71,10 +76,14 @@ module _ (job : Job) (nodes : List Node) (all : SeenLanes) (board : IsBoard job 
   fits_there = subst (λ (one : Job). FitsJob one there) (sym turned_job) (board.fits node there is_there)
 
   agrees_here : Agrees job node (state_of there) (ends_of turned)
-  agrees_here = subst (λ (state : NodeState). Agrees job node state (ends_of turned)) state_is (agree job world board.kept node inside_world (ends_of turned) turned_ends)
+  agrees_here =
+      let by_world = agree job world board.kept node inside_world (ends_of turned) turned_ends in
+      subst (λ (state : NodeState). Agrees job node state (ends_of turned)) state_is by_world
 
   pub agrees_there : Agrees turned.job there.share.node (state_of there) (ends_of turned)
-  agrees_there = subst (λ (one : Job). Agrees one there.share.node (state_of there) (ends_of turned)) (sym turned_job) (subst (λ (own : ℕ). Agrees job own (state_of there) (ends_of turned)) (sym number) agrees_here)
+  agrees_there =
+      let by_number = subst (λ (own : ℕ). Agrees job own (state_of there) (ends_of turned)) (sym number) agrees_here in
+      subst (λ (one : Job). Agrees one there.share.node (state_of there) (ends_of turned)) (sym turned_job) by_number
 
   -- ---- the node afterwards
 
@@ -83,7 +92,8 @@ module _ (job : Job) (nodes : List Node) (all : SeenLanes) (board : IsBoard job 
     new_nodes = set nodes node new
 
     -- a world in which the node has this state, and with which these ends agree, is the one in memory
-    module _ (then_world : WorldState) (kept : IsKept job then_world) (nodes_so : then_world.nodes ≡ set world.nodes node (state_of new)) (ends : AreEnds job then_world node (ends_of after)) where
+    module _ (then_world : WorldState) (kept : IsKept job then_world)
+        (nodes_so : then_world.nodes ≡ set world.nodes node (state_of new)) (ends : AreEnds job then_world node (ends_of after)) where
       as_many : length after.lanes ≡ length then_world.links
       as_many = lanes_are.count ∙ ap (λ (one : Job). length one.checked.board.links) ends.same_job ∙ sym kept.lines
 
@@ -92,7 +102,8 @@ module _ (job : Job) (nodes : List Node) (all : SeenLanes) (board : IsBoard job 
           let low : link < length after.lanes = omega (arith, below, length-map after.lanes (λ (lane : SeenLane). lane.words)) in
           let high : link < length then_world.links = omega (arith, low, as_many) in
           let lane = lanes_are.each link low in
-          get_or-map (λ (lane : SeenLane). lane.words) after.lanes link (record { words = []; sent = 0; taken = 0; full = 0; empty = 0; room = 0 }) [] low
+          let no_lane : SeenLane = record { words = []; sent = 0; taken = 0; full = 0; empty = 0; room = 0 } in
+          get_or-map (λ (lane : SeenLane). lane.words) after.lanes link no_lane [] low
           ∙ lane.content
           ∙ ap₂ (λ (sent taken : ℕ). drop taken (take sent (script after.job link))) (ends.sent link high) (ends.taken link high)
           ∙ ap (λ (one : Job). drop (taken_at job then_world link) (take (sent_at job then_world link) (script one link))) ends.same_job
@@ -101,28 +112,51 @@ module _ (job : Job) (nodes : List Node) (all : SeenLanes) (board : IsBoard job 
       pub world_is : world_of new_nodes after ≡ then_world
       world_is =
           let states : map state_of new_nodes ≡ then_world.nodes = map-set state_of nodes node new ∙ sym nodes_so in
-          let links : lane_words after.lanes ≡ then_world.links = same_lists (lane_words after.lanes) then_world.links [] (length-map after.lanes (λ (lane : SeenLane). lane.words) ∙ as_many) each_words in
+          let count = length-map after.lanes (λ (lane : SeenLane). lane.words) ∙ as_many in
+          let links : lane_words after.lanes ≡ then_world.links = same_lists (lane_words after.lanes) then_world.links [] count each_words in
           λ i. record { nodes = states i; links = links i }
 
-      set_at : (other : ℕ) (one : Node) → slice_get new_nodes other ≡ Some one → ((other ≡ node) × (one ≡ new)) ⊎ (slice_get nodes other ≡ Some one)
+      -- a node is the new one, or one of before
+      abbrev IsOwnOrOld : ℕ → Node → Type 0
+      IsOwnOrOld other one = ((other ≡ node) × (one ≡ new)) ⊎ (slice_get nodes other ≡ Some one)
+
+      set_at : (other : ℕ) (one : Node) → slice_get new_nodes other ≡ Some one → IsOwnOrOld other one
       set_at other one is =
           let within : other < length new_nodes = slice_get_within new_nodes other one is in
           let here : get_or new_nodes other one ≡ one = get_or_from_slice_get new_nodes other one one is in
           let if_same = λ (same : other ≡ node).
           let its : one ≡ new = sym here ∙ ap (λ (place : ℕ). get_or new_nodes place one) same ∙ get_or-set_same nodes node new one inside in
-          let whole : ((other ≡ node) × (one ≡ new)) ⊎ (slice_get nodes other ≡ Some one) = inl (same, its) in whole in
+          let whole : IsOwnOrOld other one = inl (same, its) in whole in
           let if_other = λ (apart : other ≡ node → ⊥).
           let its : get_or nodes other one ≡ one = sym (get_or-set_other nodes node other new one apart) ∙ here in
-          let whole : ((other ≡ node) × (one ≡ new)) ⊎ (slice_get nodes other ≡ Some one) = inr (slice_get-get_or nodes other one (omega (arith, within, length-set nodes node new)) ∙ ap Some its) in whole in
+          let old = slice_get-get_or nodes other one (omega (arith, within, length-set nodes node new)) in
+          let whole : IsOwnOrOld other one = inr (old ∙ ap Some its) in whole in
           ⊎_elim if_same if_other (cases_eq other node)
+
+      numbers_then : (other : ℕ) (one : Node) → slice_get new_nodes other ≡ Some one → one.share.node ≡ other
+      numbers_then other one is = ⊎_elim if_own (board.numbers other one) (set_at other one is) where
+        if_own : (other ≡ node) × (one ≡ new) → one.share.node ≡ other
+        if_own own = ap (λ (any : Node). any.share.node) own.1 ∙ ap (λ (any : Share). any.node) share ∙ number ∙ sym own.0
+
+      fits_then : (other : ℕ) (one : Node) → slice_get new_nodes other ≡ Some one → FitsJob job one
+      fits_then other one is = ⊎_elim if_own (board.fits other one) (set_at other one is) where
+        if_own : (other ≡ node) × (one ≡ new) → FitsJob job one
+        if_own own = subst (FitsJob job) (sym own.1) (subst (λ (any : Job). FitsJob any new) ends.same_job fits)
 
       pub board_is : IsBoard job new_nodes after
       board_is = record {
         same = ends.same_job;
-        numbers = λ other one is. ⊎_elim (λ (own : (other ≡ node) × (one ≡ new)). ap (λ (any : Node). any.share.node) own.1 ∙ ap (λ (any : Share). any.node) share ∙ number ∙ sym own.0) (λ old. board.numbers other one old) (set_at other one is);
-        fits = λ other one is. ⊎_elim (λ (own : (other ≡ node) × (one ≡ new)). subst (FitsJob job) (sym own.1) (subst (λ (any : Job). FitsJob any new) ends.same_job fits)) (λ old. board.fits other one old) (set_at other one is);
+        numbers = numbers_then;
+        fits = fits_then;
         kept = subst (IsKept job) (sym world_is) kept;
-        ends = subst (λ (one : WorldState). AreEnds job one after.node (ends_of after)) (sym world_is) (record { same_job = ends.same_job; same_node = refl; told = refl; sent = ends.sent; taken = ends.taken; room = ends.room });
+        ends = subst (λ (one : WorldState). AreEnds job one after.node (ends_of after)) (sym world_is) (record {
+          same_job = ends.same_job;
+          same_node = refl;
+          told = refl;
+          sent = ends.sent;
+          taken = ends.taken;
+          room = ends.room;
+        });
       }
 
     -- ---- by one step
@@ -136,9 +170,11 @@ module _ (job : Job) (nodes : List Node) (all : SeenLanes) (board : IsBoard job 
       pub stepped_board : IsBoard job new_nodes after × (world_of new_nodes after ≡ happens job world node)
       stepped_board =
           let kept = event_kept job world node board.kept in
+          let then_world = happens job world node in
           let nodes_so = nodes_are job world board.kept node inside_world (ends_of turned) turned_ends answer (state_of new) (ends_of after) steps_here in
           let ends = ends_then job world board.kept node inside_world (ends_of turned) turned_ends answer (state_of new) (ends_of after) steps_here in
-          let whole : IsBoard job new_nodes after × (world_of new_nodes after ≡ happens job world node) = (board_is (happens job world node) kept nodes_so ends, world_is (happens job world node) kept nodes_so ends) in whole
+          let whole : IsBoard job new_nodes after × (world_of new_nodes after ≡ happens job world node) =
+          (board_is then_world kept nodes_so ends, world_is then_world kept nodes_so ends) in whole
 
     -- ---- by many
 
@@ -154,12 +190,23 @@ module _ (job : Job) (nodes : List Node) (all : SeenLanes) (board : IsBoard job 
       then_kept : IsKept job (played job world all_of_it.events)
       then_kept = played_kept job world all_of_it.events board.kept
 
-      counts : lefts job 0 (map state_of new_nodes) + left job node (node_at world node) ≡ lefts job 0 (map state_of nodes) + left job node (state_of new)
-      counts = ap (λ (states : List NodeState). lefts job 0 states + left job node (node_at world node)) (map-set state_of nodes node new) ∙ own_counts where
-        own_counts : lefts job 0 (set (map state_of nodes) node (state_of new)) + left job node (node_at world node) ≡ lefts job 0 (map state_of nodes) + left job node (state_of new)
-        own_counts =
-            let same : 0 + node ≡ node = omega arith in
-            omega (arith, lefts_set job 0 (map state_of nodes) node (state_of new) no_state inside_world, ap (λ (one : ℕ). left job one (node_at world node)) same, ap (λ (one : ℕ). left job one (state_of new)) same)
+      -- how many actions are to come, and how many were
+      abbrev lefts_then : ℕ
+      lefts_then = lefts job 0 (map state_of new_nodes)
+
+      abbrev lefts_before : ℕ
+      lefts_before = lefts job 0 (map state_of nodes)
+
+      counts : lefts_then + left job node (node_at world node) ≡ lefts_before + left job node (state_of new)
+      counts =
+          let states = map state_of nodes in
+          let same : 0 + node ≡ node = omega arith in
+          let one_set = lefts_set job 0 states node (state_of new) no_state inside_world in
+          let left_before = ap (λ (one : ℕ). left job one (node_at world node)) same in
+          let left_then = ap (λ (one : ℕ). left job one (state_of new)) same in
+          let set_counts : lefts job 0 (set states node (state_of new)) + left job node (node_at world node) ≡ lefts_before + left job node (state_of new) =
+          omega (arith, one_set, left_before, left_then) in
+          ap (λ (states : List NodeState). lefts job 0 states + left job node (node_at world node)) (map-set state_of nodes node new) ∙ set_counts
 
       pub went_board : IsBoard job new_nodes after
       went_board = board_is (played job world all_of_it.events) then_kept all_of_it.nodes all_of_it.are_ends
@@ -170,7 +217,8 @@ module _ (job : Job) (nodes : List Node) (all : SeenLanes) (board : IsBoard job 
       pub went_less : lefts job 0 (map state_of new_nodes) ≤ lefts job 0 (map state_of nodes)
       went_less = omega (arith, counts, all_of_it.less)
 
-      pub went_still : lefts job 0 (map state_of new_nodes) ≡ lefts job 0 (map state_of nodes) → (world_of new_nodes after ≡ world) × (IsAble job world node → ⊥)
+      pub went_still : lefts job 0 (map state_of new_nodes) ≡ lefts job 0 (map state_of nodes)
+          → (world_of new_nodes after ≡ world) × (IsAble job world node → ⊥)
       unfolding went_leads all_of_it
       went_still same =
           let both = all_of_it.still (omega (arith, same, counts)) in

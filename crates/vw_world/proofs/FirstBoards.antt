@@ -45,7 +45,8 @@ module _ (job : Job) where
     by [] = refl
     by (link ∷ links) = ap (λ (lists : List (List Word)). [] ∷ lists) (by links) ∙ sym (first_more (length links))
 
-  pub made_lanes : (links : List Link) (lanes : List SeenLane) (done : ℕ) → links ≡ job.checked.board.links → lanes ++ map fresh_lane (drop done links) ≡ map fresh_lane links → length links ≤ done → lanes ≡ (fresh_lanes job).lanes
+  pub made_lanes : (links : List Link) (lanes : List SeenLane) (done : ℕ) → links ≡ job.checked.board.links
+      → lanes ++ map fresh_lane (drop done links) ≡ map fresh_lane links → length links ≤ done → lanes ≡ (fresh_lanes job).lanes
   made_lanes links lanes done links_are made all =
       sym (append-nil lanes) ∙ ap (λ (rest : List Link). lanes ++ map fresh_lane rest) (sym (drop_all done links all)) ∙ made ∙ ap (map fresh_lane) links_are
 
@@ -55,37 +56,55 @@ module _ (job : Job) where
   no_place node there is = slice_get_within [] node there is
 
   pub no_nodes : AreNodes job 0 []
-  no_nodes = record { numbers = λ node there is. absurd (omega (arith, no_place node there is)); fits = λ node there is. absurd (omega (arith, no_place node there is)); states = refl }
+  no_nodes = record {
+    numbers = λ node there is. absurd (omega (arith, no_place node there is));
+    fits = λ node there is. absurd (omega (arith, no_place node there is));
+    states = refl;
+  }
 
   -- one node more
-  pub node_more : (node : ℕ) (nodes new : List Node) (one : Node) (share : Share) → AreNodes job node nodes → length nodes ≡ node → new ≡ nodes ++ one ∷ [] → share.node ≡ node → IsShare job share → IsMade share one → AreNodes job (node + 1) new
+  pub node_more : (node : ℕ) (nodes new : List Node) (one : Node) (share : Share)
+      → AreNodes job node nodes → length nodes ≡ node → new ≡ nodes ++ one ∷ []
+      → share.node ≡ node → IsShare job share → IsMade share one → AreNodes job (node + 1) new
   node_more node nodes new one share are long new_is number its made = subst (AreNodes job (node + 1)) (sym new_is) whole where
     state : state_of one ≡ start_state job node
     state = made.starts job its ∙ ap (start_state job) number
 
-    here : (other : ℕ) (there : Node) → slice_get (nodes ++ one ∷ []) other ≡ Some there → (slice_get nodes other ≡ Some there) ⊎ ((other ≡ node) × (there ≡ one))
+    here : (other : ℕ) (there : Node) → slice_get (nodes ++ one ∷ []) other ≡ Some there
+        → (slice_get nodes other ≡ Some there) ⊎ ((other ≡ node) × (there ≡ one))
     here other there is =
         let within = slice_get_within (nodes ++ one ∷ []) other there is in
         let at : get_or (nodes ++ one ∷ []) other there ≡ there = get_or_from_slice_get (nodes ++ one ∷ []) other there there is in
         let if_before = λ (before : other < length nodes).
         let old : get_or nodes other there ≡ there = sym (get_or_append_left nodes (one ∷ []) there other before) ∙ at in
-        let answer : (slice_get nodes other ≡ Some there) ⊎ ((other ≡ node) × (there ≡ one)) = inl (slice_get-get_or nodes other there before ∙ ap Some old) in answer in
+        let listed = slice_get-get_or nodes other there before ∙ ap Some old in
+        let answer : (slice_get nodes other ≡ Some there) ⊎ ((other ≡ node) × (there ≡ one)) = inl listed in answer in
         let if_last = λ (past : length nodes ≤ other).
         let same : length nodes ≡ other = omega (arith, past, within, length_push nodes one) in
         let its : there ≡ one = sym at ∙ get_or_push nodes one there other same in
         let answer : (slice_get nodes other ≡ Some there) ⊎ ((other ≡ node) × (there ≡ one)) = inr (sym same ∙ long, its) in answer in
         ⊎_elim if_before if_last (cases_lt other (length nodes))
 
+    own_number : (other : ℕ) (there : Node) → (other ≡ node) × (there ≡ one) → there.share.node ≡ other
+    own_number other there own =
+        ap (λ (any : Node). any.share.node) own.1 ∙ ap (λ (any : Share). any.node) made.same ∙ number ∙ sym own.0
+
+    own_fits : (other : ℕ) (there : Node) → (other ≡ node) × (there ≡ one) → FitsJob job there
+    own_fits other there own = subst (FitsJob job) (sym own.1) (made.fits job its)
+
     whole : AreNodes job (node + 1) (nodes ++ one ∷ [])
     whole = record {
-      numbers = λ other there is. ⊎_elim (are.numbers other there) (λ (own : (other ≡ node) × (there ≡ one)). ap (λ (any : Node). any.share.node) own.1 ∙ ap (λ (any : Share). any.node) made.same ∙ number ∙ sym own.0) (here other there is);
-      fits = λ other there is. ⊎_elim (are.fits other there) (λ (own : (other ≡ node) × (there ≡ one)). subst (FitsJob job) (sym own.1) (made.fits job its)) (here other there is);
-      states = map-append state_of nodes (one ∷ []) ∙ ap₂ (λ (states : List NodeState) (last : NodeState). states ++ last ∷ []) are.states state ∙ sym (tabulate_more (start_state job) node);
+      numbers = λ other there is. ⊎_elim (are.numbers other there) (own_number other there) (here other there is);
+      fits = λ other there is. ⊎_elim (are.fits other there) (own_fits other there) (here other there is);
+      states = map-append state_of nodes (one ∷ [])
+          ∙ ap₂ (λ (states : List NodeState) (last : NodeState). states ++ last ∷ []) are.states state
+          ∙ sym (tabulate_more (start_state job) node);
     }
 
   -- ---- both
 
-  pub first_board : (nodes : List Node) (all : SeenLanes) → AreNodes job (suc job.checked.board.chips) nodes → all ≡ fresh_lanes job → (world_of nodes all ≡ start_world job) × IsBoard job nodes all
+  pub first_board : (nodes : List Node) (all : SeenLanes) → AreNodes job (suc job.checked.board.chips) nodes → all ≡ fresh_lanes job
+      → (world_of nodes all ≡ start_world job) × IsBoard job nodes all
   first_board nodes all are is = subst (λ (one : SeenLanes). (world_of nodes one ≡ start_world job) × IsBoard job nodes one) (sym is) whole where
     world_is : world_of nodes (fresh_lanes job) ≡ start_world job
     world_is = λ i. record { nodes = are.states i; links = fresh_words i }

@@ -17,7 +17,8 @@ use Rattle.vw_world.specs.Worlds.{WorldState, happens, node_at, played}
 use Rattle.vw_world.proofs.KeptWorlds.{played_kept}
 use Rattle.vw_world.proofs.Turns.{ends_then, nodes_are, refused_same, same_nodes}
 
-pub played_more : (job : Job) (world : WorldState) (events : List ℕ) (node : ℕ) → played job world (events ++ node ∷ []) ≡ happens job (played job world events) node
+pub played_more : (job : Job) (world : WorldState) (events : List ℕ) (node : ℕ)
+    → played job world (events ++ node ∷ []) ≡ happens job (played job world events) node
 played_more job world [] node = refl
 played_more job world (event ∷ events) node = played_more job (happens job world event) events node
 
@@ -30,7 +31,8 @@ set_twice [] place one two = refl
 set_twice (x ∷ xs) zero one two = refl
 set_twice (x ∷ xs) (suc place) one two = ap (λ (rest : List _). x ∷ rest) (set_twice xs place one two)
 
-module _ (job : Job) (world : WorldState) (kept : IsKept job world) (node : ℕ) (inside : node < length world.nodes) (before : SeenEnds) (are : AreEnds job world node before) where
+module _ (job : Job) (world : WorldState) (kept : IsKept job world) (node : ℕ) (inside : node < length world.nodes)
+    (before : SeenEnds) (are : AreEnds job world node before) where
   abbrev state : NodeState
   state = node_at world node
 
@@ -57,12 +59,21 @@ module _ (job : Job) (world : WorldState) (kept : IsKept job world) (node : ℕ)
     pub own_now : node_at now node ≡ between
     own_now = ap (λ (nodes : List NodeState). get_or nodes node no_state) gone.nodes ∙ get_or-set_same world.nodes node between no_state inside
 
+    holds_now : HoldsValues job node between
+    holds_now = subst (HoldsValues job node) own_now (kept_now.nodes node inside_now)
+
     module _ (answer : Step) (new : NodeState) (after : SeenEnds) (steps : Steps job node between new ends after answer) where
       steps_now : Steps job node (node_at now node) new ends after answer
       steps_now = subst (λ (one : NodeState). Steps job node one new ends after answer) (sym own_now) steps
 
       nodes_then : (happens job now node).nodes ≡ set world.nodes node new
-      nodes_then = nodes_are job now kept_now node inside_now ends gone.are_ends answer new after steps_now ∙ ap (λ (nodes : List NodeState). set nodes node new) gone.nodes ∙ set_twice world.nodes node between new
+      nodes_then =
+          nodes_are job now kept_now node inside_now ends gone.are_ends answer new after steps_now
+          ∙ ap (λ (nodes : List NodeState). set nodes node new) gone.nodes
+          ∙ set_twice world.nodes node between new
+
+      ends_next : AreEnds job (happens job now node) node after
+      ends_next = ends_then job now kept_now node inside_now ends gone.are_ends answer new after steps_now
 
       more : (happens job now node) ≡ played job world (gone.events ++ node ∷ [])
       more = sym (played_more job world gone.events node)
@@ -71,7 +82,7 @@ module _ (job : Job) (world : WorldState) (kept : IsKept job world) (node : ℕ)
       step_gone many less = record {
         events = gone.events ++ node ∷ [];
         nodes = sym (ap (λ (one : WorldState). one.nodes) more) ∙ nodes_then;
-        are_ends = subst (λ (one : WorldState). AreEnds job one node after) more (ends_then job now kept_now node inside_now ends gone.are_ends answer new after steps_now);
+        are_ends = subst (λ (one : WorldState). AreEnds job one node after) more ends_next;
         less = less;
       }
 
@@ -84,7 +95,7 @@ module _ (job : Job) (world : WorldState) (kept : IsKept job world) (node : ℕ)
   }
   goes_gone (suc count) new after (between, ends, moves, steps) =
       let gone = goes_gone count between ends moves in
-      let one = less_left job node between new ends after steps (subst (HoldsValues job node) (own_now between ends count gone) ((kept_now between ends count gone).nodes node (inside_now between ends count gone))) in
+      let one = less_left job node between new ends after steps (holds_now between ends count gone) in
       step_gone between ends count gone Moved new after steps (suc count) (omega (arith, one, gone.less))
 
   -- what it comes to: the world after some events; no more actions are to come, and where as many are, nothing has changed and
@@ -100,7 +111,8 @@ module _ (job : Job) (world : WorldState) (kept : IsKept job world) (node : ℕ)
   went new after answer goes = by goes.count goes.moves where
     by : (count : ℕ) → MakesActions job node state goes.between before goes.ends count → Went new after
     by zero (same, stay) =
-        let steps : Steps job node state new before after answer = subst (λ (one : NodeState). Steps job node one new before after answer) same (subst (λ (one : SeenEnds). Steps job node goes.between new one after answer) stay goes.last) in
+        let from_before = subst (λ (one : SeenEnds). Steps job node goes.between new one after answer) stay goes.last in
+        let steps : Steps job node state new before after answer = subst (λ (one : NodeState). Steps job node one new before after answer) same from_before in
         let refused = refused_same job world kept node inside before are answer new after goes.stops steps in
         record {
           events = node ∷ [];
@@ -111,8 +123,11 @@ module _ (job : Job) (world : WorldState) (kept : IsKept job world) (node : ℕ)
         }
     by (suc count) moves =
         let gone = goes_gone (suc count) goes.between goes.ends moves in
-        let refused = refused_same job (now goes.between goes.ends (suc count) gone) (kept_now goes.between goes.ends (suc count) gone) node (inside_now goes.between goes.ends (suc count) gone) goes.ends gone.are_ends answer new after goes.stops
-        (steps_now goes.between goes.ends (suc count) gone answer new after goes.last) in
+        let here = now goes.between goes.ends (suc count) gone in
+        let kept_here = kept_now goes.between goes.ends (suc count) gone in
+        let inside_here = inside_now goes.between goes.ends (suc count) gone in
+        let steps = steps_now goes.between goes.ends (suc count) gone answer new after goes.last in
+        let refused = refused_same job here kept_here node inside_here goes.ends gone.are_ends answer new after goes.stops steps in
         let same : left job node new ≡ left job node goes.between = ap (left job node) (refused.0 ∙ own_now goes.between goes.ends (suc count) gone) in
         let all = step_gone goes.between goes.ends (suc count) gone answer new after goes.last (suc count) (omega (arith, same, gone.less)) in
         record {

@@ -1,3 +1,4 @@
+pub mod NextActions
 pub mod KeptWorlds
 pub mod MomentCounts
 pub mod Spans

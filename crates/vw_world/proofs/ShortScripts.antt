@@ -35,7 +35,10 @@ hops_twice links net (hop ∷ hops) = omega (arith, hops_twice links net hops)
 
 wires_twice : (links : List Link) (wires : List Wire) → length (wire_entries links wires) ≡ 2 * hop_count wires
 wires_twice links [] = refl
-wires_twice links (wire ∷ wires) = let opened : hop_count (wire ∷ wires) ≡ length wire.hops + hop_count wires = sum_by-cons (λ (one : Wire). length one.hops) wire wires in omega (arith, opened, length-append (hop_entries links wire.net wire.hops) (wire_entries links wires), hops_twice links wire.net wire.hops, wires_twice links wires)
+wires_twice links (wire ∷ wires) =
+    let opened : hop_count (wire ∷ wires) ≡ length wire.hops + hop_count wires = sum_by-cons (λ (one : Wire). length one.hops) wire wires in
+    let both = length-append (hop_entries links wire.net wire.hops) (wire_entries links wires) in
+    omega (arith, opened, both, hops_twice links wire.net wire.hops, wires_twice links wires)
 
 module _ (job : Job) (link : ℕ) where
   abbrev planned : PlannedBoard
@@ -44,7 +47,8 @@ module _ (job : Job) (link : ℕ) where
   few_passes : length (passes planned link) < 2 ^ 32
   unfolding timetable
   few_passes =
-      let few_gates : length planned.ordered.order ≤ length planned.ordered.flat.cells = length-order planned.ordered.flat.inputs planned.ordered.flat.cells planned.ordered.order planned.ordered.is_order in
+      let ordered = planned.ordered in
+      let few_gates : length ordered.order ≤ length ordered.flat.cells = length-order ordered.flat.inputs ordered.flat.cells ordered.order ordered.is_order in
       omega (
         arith,
         length-filter (is_sent link) (timetable planned),
@@ -78,4 +82,6 @@ module _ (job : Job) (link : ℕ) where
 
   pub short_script : length (script job link) < 2 ^ 64
   unfolding script
-  short_script = let below = product_below (length job.rows) (length (passes planned link)) (omega (arith, job.short)) few_passes in omega (arith, words_are (length job.rows), below)
+  short_script =
+      let below = product_below (length job.rows) (length (passes planned link)) (omega (arith, job.short)) few_passes in
+      omega (arith, words_are (length job.rows), below)

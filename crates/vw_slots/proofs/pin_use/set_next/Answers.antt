@@ -12,9 +12,11 @@ lent_pin_use c = ap option_copied_mut (sym c.unwrap-pin_use.ensures) ∙ c.get_m
 pub returns-clause-used : goal.returns-clause-used
 returns-clause-used c =
     let new : PinUse = record { used = c.unwrap-pin_use.result.now.used; next = c.args.next } in
-    used_kept c.args.pin_uses.now (c.get_mut.follows.lender new) c.args.link c.args.at new (((c.get_mut.follows.holds new).3 c.requires).0) (ap used_of (lent_pin_use c))
+    let put = ((c.get_mut.follows.holds new).3 c.requires).0 in
+    used_kept c.args.pin_uses.now (c.get_mut.follows.lender new) c.args.link c.args.at new put (ap used_of (lent_pin_use c))
 
 pub returns-clause-nexts : goal.returns-clause-nexts
 returns-clause-nexts c =
     let new : PinUse = record { used = c.unwrap-pin_use.result.now.used; next = c.args.next } in
-    next_put c.args.pin_uses.now (c.get_mut.follows.lender new) c.args.link c.args.at new (((c.get_mut.follows.holds new).3 c.requires).0)
+    let put = ((c.get_mut.follows.holds new).3 c.requires).0 in
+    next_put c.args.pin_uses.now (c.get_mut.follows.lender new) c.args.link c.args.at new put

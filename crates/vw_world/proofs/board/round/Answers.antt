@@ -13,9 +13,12 @@ loop-node-preserved c =
       less = c.go_on.ensures.less;
       still = c.go_on.ensures.still;
     } in
-    round_more c.args.lanes.now.job (world_of c.args.nodes.now c.args.lanes.now) c.loop-node.nodes c.go_on.new.nodes c.loop-node.lanes c.go_on.new.lanes c.loop-node.node c.loop-node.invariant gone
+    let start = world_of c.args.nodes.now c.args.lanes.now in
+    let more = round_more c.args.lanes.now.job start c.loop-node.nodes c.go_on.new.nodes c.loop-node.lanes c.go_on.new.lanes in
+    more c.loop-node.node c.loop-node.invariant gone
 
 -- src/board.rt:51:1
 pub returns-clause-less : goal.returns-clause-less
 returns-clause-less c =
-    round_acts c.args.lanes.now.job c.args.nodes.now c.loop-node.nodes c.args.lanes.now c.loop-node.lanes c.loop-node.node c.requires.board c.loop-node.invariant (omega (arith, c.loop-node-test.false, c.loop-node.auto.nodes)) c.requires.some
+    let acts = round_acts c.args.lanes.now.job c.args.nodes.now c.loop-node.nodes c.args.lanes.now c.loop-node.lanes c.loop-node.node in
+    acts c.requires.board c.loop-node.invariant (omega (arith, c.loop-node-test.false, c.loop-node.auto.nodes)) c.requires.some

@@ -11,7 +11,9 @@ pub loop-node-preserved : goal.loop-node-preserved
 loop-node-preserved c =
     let job = c.args.job.now in
     let long : length c.loop-node.nodes.items ≡ c.loop-node.node =
-    sym (length-map c.loop-node.nodes.items state_of) ∙ ap (λ (states : List NodeState). length states) c.loop-node.invariant.states ∙ length-tabulate (start_state job) c.loop-node.node in
+    sym (length-map c.loop-node.nodes.items state_of)
+    ∙ ap (λ (states : List NodeState). length states) c.loop-node.invariant.states
+    ∙ length-tabulate (start_state job) c.loop-node.node in
     let its : IsShare job c.share.result = record {
       first = c.share.ensures.first;
       clocks = c.share.ensures.clocks;
@@ -19,4 +21,5 @@ loop-node-preserved c =
       start = c.share.ensures.start;
       rows = c.share.ensures.rows ∙ ap (λ (node : ℕ). if eqb node 0 then Some job.rows else None) (sym c.share.ensures.node);
     } in
-    node_more job c.loop-node.node c.loop-node.nodes.items c.push.new.self.items c.in_ok-make.field-0 c.share.result c.loop-node.invariant long c.in_ok-push.ensures.items c.share.ensures.node its c.in_ok-make.ensures
+    let more = node_more job c.loop-node.node c.loop-node.nodes.items c.push.new.self.items c.in_ok-make.field-0 c.share.result in
+    more c.loop-node.invariant long c.in_ok-push.ensures.items c.share.ensures.node its c.in_ok-make.ensures

@@ -12,10 +12,12 @@ take-requires c =
 pub invariant_of-self : goal.invariant_of-self
 invariant_of-self c =
     let all : SeenLanes = record { job = c.self.inside.job.now; node = c.self.inside.node; lanes = c.self.inside.lanes.items } in
-    (take_is all c.args.self.now c.self.view_is c.self.invariant c.args.link c.index_mut.result.now c.index_mut.ensures.value c.requires c.take.result c.take.new.self c.take.ensures).0
+    let answers = take_is all c.args.self.now c.self.view_is c.self.invariant c.args.link c.index_mut.result.now c.index_mut.ensures.value in
+    (answers c.requires c.take.result c.take.new.self c.take.ensures).0
 
 -- src/lanes.rt:48:5
 pub returns : goal.returns
 returns c =
     let all : SeenLanes = record { job = c.self.inside.job.now; node = c.self.inside.node; lanes = c.self.inside.lanes.items } in
-    (take_is all c.args.self.now c.self.view_is c.self.invariant c.args.link c.index_mut.result.now c.index_mut.ensures.value c.requires c.take.result c.take.new.self c.take.ensures).1
+    let answers = take_is all c.args.self.now c.self.view_is c.self.invariant c.args.link c.index_mut.result.now c.index_mut.ensures.value in
+    (answers c.requires c.take.result c.take.new.self c.take.ensures).1
