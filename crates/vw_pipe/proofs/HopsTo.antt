@@ -18,12 +18,14 @@ module _ (node net : ℕ) where
   -- the number of a route, where routes are numbered from a number on, leads to the hops
   abbrev FindsFrom : ℕ → List Route → List (List Hop) → Option ℕ → Type 0
   FindsFrom from routes hops None = route_hops_to routes hops node net ≡ []
-  FindsFrom from routes hops (Some place) = (from ≤ place) × (place < from + length routes) × (slice_index_or hops (place - from) [] ≡ route_hops_to routes hops node net)
+  FindsFrom from routes hops (Some place) =
+      (from ≤ place) × (place < from + length routes) × (slice_index_or hops (place - from) [] ≡ route_hops_to routes hops node net)
 
   abbrev is_to : Route → Bool
   is_to route = eqb route.net net && eqb route.to node
 
-  finds_one : (from : ℕ) (route : Route) (routes : List Route) (sent : List Hop) (hops : List (List Hop)) (here : Bool) → is_to route ≡ here → (rest : Option ℕ) → FindsFrom (suc from) routes hops rest → FindsFrom from (route ∷ routes) (sent ∷ hops) (option_or (found_if here from) rest)
+  finds_one : (from : ℕ) (route : Route) (routes : List Route) (sent : List Hop) (hops : List (List Hop)) (here : Bool) → is_to route ≡ here
+      → (rest : Option ℕ) → FindsFrom (suc from) routes hops rest → FindsFrom from (route ∷ routes) (sent ∷ hops) (option_or (found_if here from) rest)
   finds_one from route routes sent hops true is rest finds =
       let none : from - from ≡ 0 = omega arith in
       (omega arith, omega arith, rw (none, is) refl)
@@ -35,12 +37,15 @@ module _ (node net : ℕ) where
   turned_to : (route : Route) → is_to route ≡ is_number_pair net node (route.net, route.to)
   turned_to route = ap₂ (λ (first second : Bool). first && second) (eqb_comm route.net net) (eqb_comm route.to node)
 
-  finds_from : (from : ℕ) (routes : List Route) (hops : List (List Hop)) → length hops ≡ length routes → FindsFrom from routes hops (first_pair from (route_pairs routes) net node)
+  finds_from : (from : ℕ) (routes : List Route) (hops : List (List Hop)) → length hops ≡ length routes
+      → FindsFrom from routes hops (first_pair from (route_pairs routes) net node)
   finds_from from [] hops long = refl
   finds_from from (route ∷ routes) [] long = absurd (omega (arith, long))
   finds_from from (route ∷ routes) (sent ∷ hops) long =
-      subst (λ (here : Bool). FindsFrom from (route ∷ routes) (sent ∷ hops) (option_or (found_if here from) (first_pair (suc from) (route_pairs routes) net node))) (turned_to route)
-      (finds_one from route routes sent hops (is_to route) refl (first_pair (suc from) (route_pairs routes) net node) (finds_from (suc from) routes hops (omega (arith, long))))
+      let in_rest = first_pair (suc from) (route_pairs routes) net node in
+      let found_in_rest = finds_from (suc from) routes hops (omega (arith, long)) in
+      let found = finds_one from route routes sent hops (is_to route) refl in_rest found_in_rest in
+      subst (λ (here : Bool). FindsFrom from (route ∷ routes) (sent ∷ hops) (option_or (found_if here from) in_rest)) (turned_to route) found
 
   -- the number of a route leads to the hops
   abbrev pub Finds : List Route → List (List Hop) → Option ℕ → Type 0
@@ -54,15 +59,22 @@ module _ (node net : ℕ) where
       (omega (arith, finds.1), rw same at finds.2)
 
   -- what a table of the pairs finds
-  pub finds : {S : Type 0} (routes : List Route) (hops : List (List Hop)) (table : HashMap (ℕ × ℕ) ℕ S) → length hops ≡ length routes → HasPairs (route_pairs routes) table → Finds routes hops (pair_in table net node)
-  finds routes hops table long has = subst (Finds routes hops) (sym (has net node)) (from_zero routes hops (first_pair 0 (route_pairs routes) net node) (finds_from 0 routes hops long))
+  pub finds : {S : Type 0} (routes : List Route) (hops : List (List Hop)) (table : HashMap (ℕ × ℕ) ℕ S) → length hops ≡ length routes
+      → HasPairs (route_pairs routes) table → Finds routes hops (pair_in table net node)
+  finds routes hops table long has =
+      let found = first_pair 0 (route_pairs routes) net node in
+      subst (Finds routes hops) (sym (has net node)) (from_zero routes hops found (finds_from 0 routes hops long))
 
 -- a table of the pairs, and the arrivals of routes, tell when a net is brought to a node
-pub arrived : {S : Type 0} (board : Board) (routes : List Route) (hops : List (List Hop)) (table : HashMap (ℕ × ℕ) ℕ S) (arrivals : List ℕ) → length hops ≡ length routes → HasPairs (route_pairs routes) table → arrivals ≡ map (after_last board.links) hops → arrival_by table arrivals ≡ arrived_by board routes hops
-arrived board routes hops table arrivals long has are = fun_ext (λ net. fun_ext (λ node. by net node (pair_in table net node) (finds node net routes hops table long has))) where
-  by : (net node : ℕ) (found : Option ℕ) → Finds node net routes hops found → option_map_or (slice_index arrivals) found 0 ≡ after_last board.links (route_hops_to routes hops node net)
-  by net node None none = ap (after_last board.links) (sym none)
-  by net node (Some place) there =
-      ap (λ (list : List ℕ). slice_index list place) are
-      ∙ get_or-map (after_last board.links) hops place [] 0 (omega (arith, there.0, long))
-      ∙ ap (after_last board.links) there.1
+pub arrived : {S : Type 0} (board : Board) (routes : List Route) (hops : List (List Hop)) (table : HashMap (ℕ × ℕ) ℕ S) (arrivals : List ℕ)
+    → length hops ≡ length routes → HasPairs (route_pairs routes) table → arrivals ≡ map (after_last board.links) hops
+    → arrival_by table arrivals ≡ arrived_by board routes hops
+arrived board routes hops table arrivals long has are =
+    fun_ext (λ net. fun_ext (λ node. by net node (pair_in table net node) (finds node net routes hops table long has))) where
+      by : (net node : ℕ) (found : Option ℕ) → Finds node net routes hops found
+          → option_map_or (slice_index arrivals) found 0 ≡ after_last board.links (route_hops_to routes hops node net)
+      by net node None none = ap (after_last board.links) (sym none)
+      by net node (Some place) there =
+          ap (λ (list : List ℕ). slice_index list place) are
+          ∙ get_or-map (after_last board.links) hops place [] 0 (omega (arith, there.0, long))
+          ∙ ap (after_last board.links) there.1

@@ -14,10 +14,15 @@ pub on_ok : {A E : Type 0} (result : Result A E) {P Q : Type 0} → (P → Q) �
 on_ok (Ok x) leads is = leads is
 on_ok (Err e) leads is = tt
 
-pub same_usable : (flat : Flat) (board : Board) (chip_of : List ℕ) (routes : List Route) (hops : List (List Hop)) (leads : List ℕ) (node one_net other_net net : ℕ) → node ≡ node_of flat chip_of one_net → one_net ≡ net → other_net ≡ net
+pub same_usable : (flat : Flat) (board : Board) (chip_of : List ℕ) (routes : List Route) (hops : List (List Hop)) (leads : List ℕ)
+    (node one_net other_net net : ℕ)
+    → node ≡ node_of flat chip_of one_net → one_net ≡ net → other_net ≡ net
     → usable_so_far flat board chip_of routes hops leads node other_net ≡ usable_so_far flat board chip_of routes hops leads (node_of flat chip_of net) net
 same_usable flat board chip_of routes hops leads node one_net other_net net node_is one_is other_is =
     ap₂ (λ (at read : ℕ). usable_so_far flat board chip_of routes hops leads at read) (node_is ∙ ap (node_of flat chip_of) one_is) other_is
 
-pub same_sent : (board : Board) (one route : Route) (number ready microcycle : ℕ) (old new : Draft) → one ≡ route → ready ≡ microcycle → IsSentMore board one number ready old new → IsSentMore board route number microcycle old new
-same_sent board one route number ready microcycle old new same_route same_microcycle sent = subst (λ (r : Route). IsSentMore board r number microcycle old new) same_route (subst (λ (m : ℕ). IsSentMore board one number m old new) same_microcycle sent)
+pub same_sent : (board : Board) (one route : Route) (number ready microcycle : ℕ) (old new : Draft) → one ≡ route → ready ≡ microcycle
+    → IsSentMore board one number ready old new → IsSentMore board route number microcycle old new
+same_sent board one route number ready microcycle old new same_route same_microcycle sent =
+    let sent_then = subst (λ (m : ℕ). IsSentMore board one number m old new) same_microcycle sent in
+    subst (λ (r : Route). IsSentMore board r number microcycle old new) same_route sent_then

@@ -15,19 +15,23 @@ use Rattle.vw_plan.proofs.AlongOrder.{All-gate_reads}
 use Rattle.vw_pipe.specs.Steps.Turns.{AreTurns}
 use Rattle.vw_pipe.proofs.LeadWorked.{gate_in_order, one_place}
 
-among_take : (count : ℕ) (numbers : List ℕ) (number : ℕ) → is_among (take count numbers) number ≡ true → (place : ℕ) × (place < length numbers) × (place < count) × (get_or numbers place 0 ≡ number)
+-- a number stands at one of the first places of a list
+abbrev StandsBefore : ℕ → List ℕ → ℕ → Type 0
+StandsBefore count numbers number = (place : ℕ) × (place < length numbers) × (place < count) × (get_or numbers place 0 ≡ number)
+
+among_take : (count : ℕ) (numbers : List ℕ) (number : ℕ) → is_among (take count numbers) number ≡ true → StandsBefore count numbers number
 among_take zero numbers number among = absurd (true≢false (sym among))
 among_take (suc count) [] number among = absurd (true≢false (sym among))
 among_take (suc count) (first ∷ numbers) number among =
     let here = λ (is : eqb first number ≡ true).
     let early : 0 < length (first ∷ numbers) = omega arith in
     let low : 0 < suc count = omega arith in
-    let whole : (place : ℕ) × (place < length (first ∷ numbers)) × (place < suc count) × (get_or (first ∷ numbers) place 0 ≡ number) = (0, early, low, eqb-true first number is) in whole in
+    let whole : StandsBefore (suc count) (first ∷ numbers) number = (0, early, low, eqb-true first number is) in whole in
     let later = λ (rest : is_among (take count numbers) number ≡ true).
     let found = among_take count numbers number rest in
     let early : suc found.0 < length (first ∷ numbers) = omega (arith, found.1) in
     let low : suc found.0 < suc count = omega (arith, found.2) in
-    let whole : (place : ℕ) × (place < length (first ∷ numbers)) × (place < suc count) × (get_or (first ∷ numbers) place 0 ≡ number) = (suc found.0, early, low, found.3) in whole in
+    let whole : StandsBefore (suc count) (first ∷ numbers) number = (suc found.0, early, low, found.3) in whole in
     ⊎_elim here later (or_cases (eqb first number) (is_among (take count numbers) number) among)
 
 not_both : (cell : Option Cell) → is_latch cell ≡ true → is_gate cell ≡ false
@@ -37,7 +41,9 @@ not_both (Some (Latch d init)) latch = refl
 
 -- a list of zeros has 0 everywhere, and past its end
 zero_at : (count net : ℕ) → ◌≡◌ {A = ℕ} (get_or (replicate count 0) net 0) 0
-zero_at count net = ⊎_elim (λ within. get_or-replicate count net 0 0 within) (λ past. get_or_past (replicate count 0) net 0 (let long : length (replicate {A = ℕ} count 0) ≡ count = length-replicate {A = ℕ} count 0 in omega arith)) (cases_lt net count)
+zero_at count net =
+    let long : length (replicate {A = ℕ} count 0) ≡ count = length-replicate {A = ℕ} count 0 in
+    ⊎_elim (λ within. get_or-replicate count net 0 0 within) (λ past. get_or_past (replicate count 0) net 0 (omega arith)) (cases_lt net count)
 
 module _ (ordered : Ordered) where
   abbrev net_at : ℕ → ℕ
@@ -49,52 +55,76 @@ module _ (ordered : Ordered) where
     pub gates : (place : ℕ) → place < count → place < length ordered.order → slice_index turns (net_at place) ≡ place + 1
     pub others : (net : ℕ) → is_gate (driving_cell ordered.flat net) ≡ false → slice_index turns net ≡ 0
 
-  pub none_turned : (turns : List ℕ) (nets : ℕ) → turns ≡ replicate nets 0 → nets ≡ ordered.flat.inputs + length ordered.flat.cells → HasTurns 0 turns
+  pub none_turned : (turns : List ℕ) (nets : ℕ) → turns ≡ replicate nets 0
+      → nets ≡ ordered.flat.inputs + length ordered.flat.cells → HasTurns 0 turns
   none_turned turns nets zeros all = record {
     long = ap length zeros ∙ length-replicate nets 0 ∙ all;
     gates = λ place before within. absurd (omega (arith, before));
     others = λ net no. ap (λ (list : List ℕ). slice_index list net) zeros ∙ zero_at nets net;
   }
 
-  pub one_turned : (count : ℕ) (turns : List ℕ) (net value : ℕ) → count < length ordered.order → net ≡ net_at count → value ≡ count + 1 → HasTurns count turns → HasTurns (count + 1) (set turns net value)
-  one_turned count turns net value inside its_net its_value has = record {
-    long = length-set turns net value ∙ has.long;
-    gates = λ place before within.
-        let here = λ (same : place ≡ count).
+  pub one_turned : (count : ℕ) (turns : List ℕ) (net value : ℕ) → count < length ordered.order
+      → net ≡ ordered.flat.inputs + slice_index ordered.order count → value ≡ count + 1
+      → HasTurns count turns → HasTurns (count + 1) (set turns net value)
+  one_turned count turns net value inside its_net its_value has = record { long = length-set turns net value ∙ has.long; gates = gates; others = others } where
+    -- the gate has the turn that is set
+    here : (place : ℕ) → place ≡ count → slice_index (set turns net value) (ordered.flat.inputs + slice_index ordered.order place) ≡ place + 1
+    here place same =
         let at : net_at place ≡ net = ap net_at same ∙ sym its_net in
-        let whole : slice_index (set turns net value) (net_at place) ≡ place + 1 = get_or-set_at turns net (net_at place) value 0 at (omega (arith, its_net, has.long, order_within ordered.is_order count inside)) ∙ its_value ∙ ap (λ (n : ℕ). n + 1) (sym same) in whole in
-        let sooner = λ (apart : place ≡ count → ⊥).
-        let other : net_at place ≡ net → ⊥ = λ same. apart (one_place ordered place count within inside (let numbers : slice_index ordered.order place ≡ slice_index ordered.order count = omega (arith, same, its_net) in numbers)) in
-        let early : place < count = omega (arith, before, apart) in
-        let whole : slice_index (set turns net value) (net_at place) ≡ place + 1 = get_or-set_other turns net (net_at place) value 0 other ∙ has.gates place early within in whole in
-        ⊎_elim here sooner (cases_eq place count);
-    others = λ other no. get_or-set_other turns net other value 0 (λ same. true≢false (sym (ap (λ (n : ℕ). is_gate (driving_cell ordered.flat n)) (same ∙ its_net) ∙ gate_in_order ordered count inside) ∙ no)) ∙ has.others other no;
-  }
+        let in_turns : net < length turns = omega (arith, its_net, has.long, order_within ordered.is_order count inside) in
+        get_or-set_at turns net (net_at place) value 0 at in_turns ∙ its_value ∙ ap (λ (n : ℕ). n + 1) (sym same)
+
+    -- those before it keep theirs
+    sooner : (place : ℕ) → place < count → place < length ordered.order
+        → slice_index (set turns net value) (ordered.flat.inputs + slice_index ordered.order place) ≡ place + 1
+    sooner place early within =
+        let other : net_at place ≡ net → ⊥ = λ same.
+        let numbers : slice_index ordered.order place ≡ slice_index ordered.order count = omega (arith, same, its_net) in
+        let no : ⊥ = omega (arith, early, one_place ordered place count within inside numbers) in no in
+        get_or-set_other turns net (net_at place) value 0 other ∙ has.gates place early within
+
+    gates : (place : ℕ) → place < count + 1 → place < length ordered.order
+        → slice_index (set turns net value) (ordered.flat.inputs + slice_index ordered.order place) ≡ place + 1
+    gates place before within = ⊎_elim (λ same. here place same) (λ apart. sooner place (omega (arith, before, apart)) within) (cases_eq place count)
+
+    others : (other : ℕ) → is_gate (driving_cell ordered.flat other) ≡ false → slice_index (set turns net value) other ≡ 0
+    others other undriven =
+        let driven : other ≡ net → is_gate (driving_cell ordered.flat other) ≡ true = λ same.
+        ap (λ (n : ℕ). is_gate (driving_cell ordered.flat n)) (same ∙ its_net) ∙ gate_in_order ordered count inside in
+        get_or-set_other turns net other value 0 (λ same. true≢false (sym (driven same) ∙ undriven)) ∙ has.others other undriven
 
   -- a net that is ready before a place has an earlier turn
-  ready_sooner : (place : ℕ) (turns : List ℕ) → place < length ordered.order → HasTurns (length ordered.order) turns → (net : ℕ) → is_ready ordered.flat.inputs ordered.flat.cells (take place ordered.order) net ≡ true → slice_index turns net < place + 1
+  ready_sooner : (place : ℕ) (turns : List ℕ) → place < length ordered.order → HasTurns (length ordered.order) turns
+      → (net : ℕ) → is_ready ordered.flat.inputs ordered.flat.cells (take place ordered.order) net ≡ true → slice_index turns net < place + 1
   ready_sooner place turns within has net ready =
       let inputs = ordered.flat.inputs in
-      let cell = slice_get ordered.flat.cells (net - inputs) in
+      let number = net - inputs in
+      let cell = slice_get ordered.flat.cells number in
+      let is_before = is_among (take place ordered.order) number in
+      let IsSooner = slice_index turns net < place + 1 in
+      let driven_by : Bool → Bool = λ input. is_gate (if input then None else cell) in
       let if_input = λ (input : nat_lt net inputs ≡ true).
-      let none : is_gate (driving_cell ordered.flat net) ≡ false = ap (λ (bit : Bool). is_gate (if bit then None else cell)) input in
-      let whole : slice_index turns net < place + 1 = omega (arith, has.others net none) in whole in
+      let none : is_gate (driving_cell ordered.flat net) ≡ false = ap driven_by input in
+      let whole : IsSooner = omega (arith, has.others net none) in whole in
       let if_past = λ (past : nat_lt net inputs ≡ false).
       let if_latch = λ (latch : is_latch cell ≡ true).
-      let none : is_gate (driving_cell ordered.flat net) ≡ false = ap (λ (bit : Bool). is_gate (if bit then None else cell)) past ∙ not_both cell latch in
-      let whole : slice_index turns net < place + 1 = omega (arith, has.others net none) in whole in
-      let if_done = λ (done : is_among (take place ordered.order) (net - inputs) ≡ true).
-      let found = among_take place ordered.order (net - inputs) done in
+      let none : is_gate (driving_cell ordered.flat net) ≡ false = ap driven_by past ∙ not_both cell latch in
+      let whole : IsSooner = omega (arith, has.others net none) in whole in
+      let if_done = λ (done : is_before ≡ true).
+      let found = among_take place ordered.order number done in
       let late : inputs ≤ net = ⊎_elim (λ less. absurd (true≢false (sym (lt-ltb net inputs less) ∙ past))) (λ no_less. no_less) (cases_lt net inputs) in
       let same : net ≡ net_at found.0 = omega (arith, late, found.3) in
-      let whole : slice_index turns net < place + 1 = omega (arith, ap (slice_index turns) same, has.gates found.0 found.1 found.1, found.2) in whole in
-      let rest : (is_latch cell || is_among (take place ordered.order) (net - inputs)) ≡ true = sym (ap (λ (bit : Bool). bit || (is_latch cell || is_among (take place ordered.order) (net - inputs))) past) ∙ ready in
-      ⊎_elim if_latch if_done (or_cases (is_latch cell) (is_among (take place ordered.order) (net - inputs)) rest) in
+      let whole : IsSooner = omega (arith, ap (slice_index turns) same, has.gates found.0 found.1 found.1, found.2) in whole in
+      let rest : (is_latch cell || is_before) ≡ true = sym (ap (λ (bit : Bool). bit || (is_latch cell || is_before)) past) ∙ ready in
+      ⊎_elim if_latch if_done (or_cases (is_latch cell) is_before rest) in
       ⊎_elim if_input if_past (cases_Bool (nat_lt net inputs))
 
   pub turns_kept : (turns : List ℕ) → HasTurns (length ordered.order) turns → AreTurns ordered turns
   turns_kept turns has place within =
       let cell = slice_get ordered.flat.cells (slice_index ordered.order place) in
       let is_done = is_ready ordered.flat.inputs ordered.flat.cells (take place ordered.order) in
-      let ready : All (λ net. is_done net ≡ true) (gate_inputs cell) = All-gate_reads (λ net. is_done net ≡ true) cell (AllPass-from_list_all is_done (read_nets_at cell) (ordered.is_order.after place within)) in
-      λ turn default inside. omega (arith, ready_sooner place turns within has (get_or (gate_inputs cell) turn default) (ready turn default inside), has.gates place within within)
+      let reads_done = AllPass-from_list_all is_done (read_nets_at cell) (ordered.is_order.after place within) in
+      let ready : All (λ net. is_done net ≡ true) (gate_inputs cell) = All-gate_reads (λ net. is_done net ≡ true) cell reads_done in
+      λ turn default inside.
+      let sooner = ready_sooner place turns within has (get_or (gate_inputs cell) turn default) (ready turn default inside) in
+      omega (arith, sooner, has.gates place within within)

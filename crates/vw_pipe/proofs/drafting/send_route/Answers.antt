@@ -40,7 +40,12 @@ returns c = on_ok c.send.result (λ sent route at.
     let given = c.args.given.now in
     let draft = c.args.draft.now in
     let here = get_or given.routes.now c.args.number c.index-given-number.result in
-    let same : here ≡ route = same_Some here route (sym (there given.routes.now c.args.number c.index-given-number.result c.requires.its.0 c.index-given-number.is) ∙ at) in
+    let found = there given.routes.now c.args.number c.index-given-number.result c.requires.its.0 c.index-given-number.is in
+    let same : here ≡ route = same_Some here route (sym found ∙ at) in
     let node = c.node_of-node.ensures ∙ ap (λ (flat : Flat). node_of flat given.chip_of.now c.net.result) c.flat.ensures in
-    let usable = c.usable_at-usable.ensures ∙ same_usable given.ordered.now.flat given.board.now given.chip_of.now given.routes.now draft.hops.items draft.leads.items c.node_of-node.result c.net.result c.net-2.result route.net node (c.net.ensures ∙ ap (λ (one : Route). one.net) same) (c.net-2.ensures ∙ ap (λ (one : Route). one.net) same) in
+    let its_net = c.net.ensures ∙ ap (λ (one : Route). one.net) same in
+    let its_net_again = c.net-2.ensures ∙ ap (λ (one : Route). one.net) same in
+    let usable = c.usable_at-usable.ensures
+    ∙ same_usable given.ordered.now.flat given.board.now given.chip_of.now given.routes.now draft.hops.items draft.leads.items
+    c.node_of-node.result c.net.result c.net-2.result route.net node its_net its_net_again in
     same_sent given.board.now here route c.args.number c.usable_at-usable.result _ draft c.send.new.draft same usable sent) c.send.ensures

@@ -12,4 +12,9 @@ loop-number-preserved c =
     let place = c.loop-number.number in
     let cells : c.cells-cell-items.result.now ≡ flat.cells = c.cells-cell-items.ensures ∙ ap (λ (f : Flat). f.cells) c.flat.ensures in
     let within : place < length flat.cells = omega (arith, ap length cells, c.loop-number-test.true) in
-    latest_step (cell_microcycle flat c.args.given.now.board.now c.args.given.now.chip_of.now c.args.given.now.routes.now draft.hops.items draft.leads.items) c.loop-number.period c.cell_microcycle-microcycle.result c.max-period-in-loop-number.result _ flat.cells place c.cell-item.result within (c.cell-item.is ∙ ap (λ (list : List Cell). get_or list place c.cell-item.result) cells) c.cell_microcycle-microcycle.ensures c.max-period-in-loop-number.ensures c.loop-number.invariant
+    let given = c.args.given.now in
+    let microcycle_of = cell_microcycle flat given.board.now given.chip_of.now given.routes.now draft.hops.items draft.leads.items in
+    let cell = c.cell-item.result in
+    let cell_is = c.cell-item.is ∙ ap (λ (list : List Cell). get_or list place cell) cells in
+    latest_step microcycle_of c.loop-number.period c.cell_microcycle-microcycle.result c.max-period-in-loop-number.result _ flat.cells place cell within cell_is
+    c.cell_microcycle-microcycle.ensures c.max-period-in-loop-number.ensures c.loop-number.invariant

@@ -7,5 +7,6 @@ use Rattle.vw_pipe.proofs.planning.route_table.Goals as goal
 -- the pairs are those of all of them
 pub returns : goal.returns
 returns c =
-    let all = all_pushed (λ (route : Route). (route.net, route.to)) c.args.routes.now c.loop-route.route-index c.loop-route.pairs.items (omega arith) c.loop-route.invariant in
+    let pair_of : Route → ℕ × ℕ = λ route. (route.net, route.to) in
+    let all = all_pushed pair_of c.args.routes.now c.loop-route.route-index c.loop-route.pairs.items (omega arith) c.loop-route.invariant in
     subst (λ (pairs : List (ℕ × ℕ)). IfOk c.of.result (λ table. HasPairs pairs table.places)) (c.deref.ensures.value ∙ all) c.of.ensures

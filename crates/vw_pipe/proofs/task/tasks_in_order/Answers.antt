@@ -7,5 +7,13 @@ use Rattle.vw_pipe.proofs.task.tasks_in_order.Goals as goal
 
 pub returns : goal.returns
 returns c =
-    let listed : c.list_sends.new.tasks.items ≡ all_tasks c.args.ordered.now c.args.turns.now c.args.routes.now = same_tasks c.args.ordered.now c.args.turns.now c.args.routes.now c.in_ok-tasks.tasks.items c.list_leads.new.tasks.items c.list_sends.new.tasks.items c.in_ok-tasks.ensures.items c.in_ok-list_leads.ensures c.in_ok-list_sends.ensures in
-    (subst (λ (list : List Task). IsPermutation list c.sort.new.self.items) listed c.in_ok-sort.ensures.permutation, rising_from_sorted c.sort.new.self.items c.in_ok-sort.ensures.sorted)
+    let ordered = c.args.ordered.now in
+    let turns = c.args.turns.now in
+    let routes = c.args.routes.now in
+    let none = c.in_ok-tasks.tasks.items in
+    let leads = c.list_leads.new.tasks.items in
+    let sends = c.list_sends.new.tasks.items in
+    let listed : sends ≡ all_tasks ordered turns routes =
+    same_tasks ordered turns routes none leads sends c.in_ok-tasks.ensures.items c.in_ok-list_leads.ensures c.in_ok-list_sends.ensures in
+    let same = subst (λ (list : List Task). IsPermutation list c.sort.new.self.items) listed c.in_ok-sort.ensures.permutation in
+    (same, rising_from_sorted c.sort.new.self.items c.in_ok-sort.ensures.sorted)

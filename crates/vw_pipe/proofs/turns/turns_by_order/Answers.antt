@@ -10,7 +10,9 @@ loop-place-init c =
     let ordered = c.args.ordered.now in
     let inputs : c.inputs-inputs.result ≡ ordered.flat.inputs = c.inputs-inputs.ensures ∙ ap (λ (flat : Flat). flat.inputs) c.flat.ensures in
     let cells : length c.cells.result.now ≡ length ordered.flat.cells = ap length (c.cells.ensures ∙ ap (λ (flat : Flat). flat.cells) c.flat-2.ensures) in
-    none_turned ordered c.in_ok-turns.turns.items (c.inputs-inputs.result + length c.cells.result.now) (c.in_ok-turns.ensures.items_if_clones_equal (λ y same. same)) (ap₂ (λ (first second : ℕ). first + second) inputs cells)
+    let nets = c.inputs-inputs.result + length c.cells.result.now in
+    let zeros = c.in_ok-turns.ensures.items_if_clones_equal (λ y same. same) in
+    none_turned ordered c.in_ok-turns.turns.items nets zeros (ap₂ (λ (first second : ℕ). first + second) inputs cells)
 
 -- the list has a place for the gate's net
 pub index_mut-requires : goal.index_mut-requires
@@ -29,7 +31,8 @@ loop-place-preserved c =
     let within : place < length ordered.order = omega (arith, ap length c.order-number-items.ensures, c.loop-place-test.true) in
     let number : get_or c.order-number-items.result.now place 0 ≡ get_or ordered.order place 0 = cc in
     let inputs : c.inputs-inputs.result ≡ ordered.flat.inputs = c.inputs-inputs.ensures ∙ ap (λ (flat : Flat). flat.inputs) c.flat.ensures in
-    one_turned ordered place c.loop-place.turns.items _ (place + 1) within (ap₂ (λ (first second : ℕ). first + second) inputs number) refl c.loop-place.invariant
+    let net = ap₂ (λ (first second : ℕ). first + second) inputs number in
+    one_turned ordered place c.loop-place.turns.items _ (place + 1) within net refl c.loop-place.invariant
 
 -- in the end each gate comes behind what it reads
 pub returns : goal.returns
@@ -37,5 +40,10 @@ returns c =
     let ordered = c.args.ordered.now in
     let place = c.loop-place.place in
     let whole : length ordered.order ≤ place = omega (arith, ap length c.order-number-items.ensures) in
-    let kept : HasTurns ordered (length ordered.order) c.loop-place.turns.items = record { long = c.loop-place.invariant.long; gates = λ at before within. c.loop-place.invariant.gates at (omega (arith, before, whole)) within; others = c.loop-place.invariant.others } in
+    let has = c.loop-place.invariant in
+    let kept : HasTurns ordered (length ordered.order) c.loop-place.turns.items = record {
+      long = has.long;
+      gates = λ at before within. has.gates at (omega (arith, before, whole)) within;
+      others = has.others;
+    } in
     turns_kept ordered c.loop-place.turns.items kept
