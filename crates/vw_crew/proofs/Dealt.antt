@@ -1,5 +1,5 @@
 -- The node with a number in its group.
-use Rattle.std.proofs.Common.{◌≡◌, ◌+◌, ◌*◌, ◌/◌, ◌%◌, ℕ, List, length, set, slice_get, ap, refl, sym, ◌∙◌, ⊎_elim, Option, Some, None}
+use Rattle.std.proofs.Common.{◌≡◌, ◌+◌, ◌*◌, ◌/◌, ◌%◌, ℕ, List, length, set, slice_get, get_or, ap, refl, sym, subst, ◌∙◌, ⊎_elim, Option, Some, None}
 use Rattle.std.specs.Option.{option_and_then}
 use Rattle.std.proofs.Math.Nat.{div-add-mod}
 use Rattle.std.proofs.Math.Seq.{map-set_same}
@@ -64,3 +64,24 @@ module _ (groups : List SeenGroup) (node : ℕ) (own : SeenOwn) (there : own_at 
           ∙ sym (ap (λ (place : ℕ). option_and_then (λ group. slice_get group.ends (other / count)) (slice_get groups place)) same) in
           let if_other = λ (differ : other % count ≡ node % count → ⊥). ap (option_and_then (λ group. slice_get group.ends (other / count))) (got_other groups (node % count) new_group (other % count) differ) in
           ⊎_elim if_same if_other (cases_eq (other % count) (node % count))
+
+  -- code reads a group, with any other where there is none
+  module _ (any : SeenGroup) where
+    -- the group that code reads for the node
+    abbrev group_read : SeenGroup
+    group_read = get_or groups (node % count) any
+
+    -- it is the one in which the node was found
+    group_is_found : group_read ≡ own_found.0
+    group_is_found = get_or_from_slice_get groups (node % count) own_found.0 any own_found.1.0
+
+    -- the group that is read has the ends of the node
+    pub read_has : slice_get group_read.ends (node / count) ≡ Some own
+    read_has = ap (λ (group : SeenGroup). slice_get group.ends (node / count)) group_is_found ∙ own_found.1.1
+
+    -- once it is written with other ends in their place, the node has these
+    pub written_changes : (after : SeenOwn) (new : SeenGroup) → new ≡ record group_read { ends = set group_read.ends (node / count) after } → Changes groups (set groups (node % count) new) node after
+    written_changes after new new_is =
+        subst (λ (group : SeenGroup). Changes groups (set groups (node % count) group) node after)
+        (sym (new_is ∙ ap (λ (group : SeenGroup). record group { ends = set group.ends (node / count) after }) group_is_found))
+        (changes own_found.0 own_found.1.0 after)

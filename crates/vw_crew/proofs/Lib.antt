@@ -4,6 +4,7 @@ pub mod Goings
 pub mod Members
 pub mod Dealt
 pub mod Carried
+pub mod BoardLinks
 pub mod Laid
 pub mod LayingOn
 pub mod Filling

@@ -3,7 +3,6 @@ use Rattle.std.proofs.lemmas.List.{get_or-set_same, length-set}
 use Rattle.vw_answer.proofs.LatchRows.{latches_put}
 use Rattle.vw_answer.proofs.rows.put_latches.Goals as goal
 
--- src/rows.rt
 pub loop-i-preserved : goal.loop-i-preserved
 loop-i-preserved c =
     let rows = c.loop-i.latches in

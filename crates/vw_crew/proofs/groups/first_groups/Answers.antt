@@ -4,7 +4,6 @@ use Rattle.vw_crew.specs.Groups.{IsFirstGroup, SeenGroup}
 use Rattle.vw_crew.proofs.Filling.{got_push}
 use Rattle.vw_crew.proofs.groups.first_groups.Goals as goal
 
--- src/groups.rt
 pub loop-number-preserved : goal.loop-number-preserved
 loop-number-preserved g c =
     let job = c.args.job.now in

@@ -5,7 +5,6 @@ use Rattle.vw_world.specs.Boards.{world_of}
 use Rattle.vw_world.proofs.Rounds.{finishing_more, unfinished}
 use Rattle.vw_world.proofs.board.finish.Goals as goal
 
--- src/board.rt:108:5
 pub loop-nodes-preserved : goal.loop-nodes-preserved
 loop-nodes-preserved c =
     let start = world_of c.args.nodes.now c.args.lanes.now in

@@ -3,7 +3,6 @@ use Rattle.vw_world.specs.Boards.{world_of}
 use Rattle.vw_world.proofs.Rounds.{HasGoneOn, round_acts, round_more}
 use Rattle.vw_world.proofs.board.round.Goals as goal
 
--- src/board.rt:61:5
 pub loop-node-preserved : goal.loop-node-preserved
 loop-node-preserved c =
     let gone : HasGoneOn c.loop-node.lanes.job c.loop-node.nodes c.loop-node.lanes c.loop-node.node c.go_on.new.nodes c.go_on.new.lanes = record {
@@ -17,7 +16,6 @@ loop-node-preserved c =
     let more = round_more c.args.lanes.now.job start c.loop-node.nodes c.go_on.new.nodes c.loop-node.lanes c.go_on.new.lanes in
     more c.loop-node.node c.loop-node.invariant gone
 
--- src/board.rt:51:1
 pub returns-clause-less : goal.returns-clause-less
 returns-clause-less c =
     let acts = round_acts c.args.lanes.now.job c.args.nodes.now c.loop-node.nodes c.args.lanes.now c.loop-node.lanes c.loop-node.node in

@@ -6,7 +6,6 @@ use Rattle.vw_node.proofs.Values.{length-tabulate}
 use Rattle.vw_world.proofs.FirstBoards.{node_more}
 use Rattle.vw_world.proofs.making.first_nodes.Goals as goal
 
--- src/making.rt:24:5
 pub loop-node-preserved : goal.loop-node-preserved
 loop-node-preserved c =
     let job = c.args.job.now in

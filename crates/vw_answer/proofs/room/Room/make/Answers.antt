@@ -5,7 +5,6 @@ use Rattle.vw_net.specs.Cells.{latch_count}
 use Rattle.vw_answer.proofs.DoneNodes.{no_last, no_latches}
 use Rattle.vw_answer.proofs.room.Room.make.Goals as goal
 
--- src/room.rt
 pub returns : goal.returns
 returns c =
     let job = c.args.job.now in

@@ -2,42 +2,36 @@ use Rattle.std.proofs.Common.{length, sym, ◌∙◌}
 use Rattle.vw_answer.proofs.DoneNodes.{bits_wide, done_node, last_more, latches_long, rows_count, rows_more, within_row, within_rows}
 use Rattle.vw_answer.proofs.room.Room.put_chip.Goals as goal
 
--- src/room.rt
 pub put_recorded-requires-clause-within : goal.put_recorded-requires-clause-within
 put_recorded-requires-clause-within c =
     let job = c.args.job.now in
     let chip = c.args.chip.now in
     within_rows job chip.share.node c.requires.number chip (done_node job chip c.requires.finished) chip.share.node c.args.self.now.latches c.requires.told.latches
 
--- src/room.rt
 pub put_recorded-requires-clause-bits : goal.put_recorded-requires-clause-bits
 put_recorded-requires-clause-bits c =
     let job = c.args.job.now in
     let chip = c.args.chip.now in
     bits_wide job chip.share.node c.requires.number chip (done_node job chip c.requires.finished)
 
--- src/room.rt
 pub put_recorded-requires-clause-clocks : goal.put_recorded-requires-clause-clocks
 put_recorded-requires-clause-clocks c =
     let job = c.args.job.now in
     let chip = c.args.chip.now in
     rows_count job chip.share.node chip (done_node job chip c.requires.finished) ∙ sym c.requires.told.latches.count
 
--- src/room.rt
 pub put_present-requires-clause-within : goal.put_present-requires-clause-within
 put_present-requires-clause-within c =
     let job = c.args.job.now in
     let chip = c.args.chip.now in
     within_row job chip.share.node c.requires.number chip (done_node job chip c.requires.finished) (length job.rows) chip.share.node c.args.self.now.last c.requires.told.last
 
--- src/room.rt
 pub put_present-requires-clause-latches : goal.put_present-requires-clause-latches
 put_present-requires-clause-latches c =
     let job = c.args.job.now in
     let chip = c.args.chip.now in
     latches_long job chip.share.node c.requires.number chip (done_node job chip c.requires.finished)
 
--- src/room.rt
 pub returns : goal.returns
 returns c =
     let job = c.args.job.now in

@@ -9,11 +9,9 @@ use Rattle.vw_crew.proofs.DealtNodes.{numbers_stay}
 use Rattle.vw_crew.proofs.CrewStays.{crew_stays, through}
 use Rattle.vw_crew.proofs.crew.Crew.finish.Goals as goal
 
--- src/crew.rt
 pub finish-requires-after_bounds : goal.finish-requires-after_bounds
 finish-requires-after_bounds g c κs within = subst AllAtWork (sym c.deref_mut.ensures.value) c.self.invariant.0.work
 
--- src/crew.rt
 pub invariant_of-self : goal.invariant_of-self
 invariant_of-self g c =
     let job = c.self.inside.job.now in
@@ -27,7 +25,6 @@ invariant_of-self g c =
     let done : AreThrough job new = through job new c.share-clocks.result.clocks c.share-clocks.ensures.clocks c.finish.ensures.done in
     subst (λ (groups : List SeenGroup). IsCrew job keeps groups × HasTold job 1 c.self.inside.room × (true ≡ true → AreThrough job groups)) (sym items) (crew, c.self.invariant.1, λ same. done)
 
--- src/crew.rt
 pub returns-clause-groups : goal.returns-clause-groups
 returns-clause-groups g c =
     let new = c.finish.new.groups in
@@ -37,7 +34,6 @@ returns-clause-groups g c =
     let stay : AllStay old new = subst (λ (groups : List SeenGroup). AllStay groups new) c.deref_mut.ensures.value c.finish.ensures.stay in
     ap node_numbers items ∙ numbers_stay old new stay ∙ ap (λ (seen : SeenCrew). seen.groups) c.self.view_is
 
--- src/crew.rt
 pub returns-clause-numbers : goal.returns-clause-numbers
 returns-clause-numbers g c =
     let new = c.finish.new.groups in

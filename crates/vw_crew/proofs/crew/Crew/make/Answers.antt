@@ -13,13 +13,11 @@ use Rattle.vw_crew.proofs.Filling.{bare_groups}
 use Rattle.vw_crew.proofs.Numbered.{are_numbered}
 use Rattle.vw_crew.proofs.crew.Crew.make.Goals as goal
 
--- src/crew.rt
 pub lay_all-requires-after_bounds : goal.lay_all-requires-after_bounds
 lay_all-requires-after_bounds g c κs within =
     subst (IsBare c.args.job.now) (sym c.deref_mut.ensures.value)
     (bare_groups c.args.job.now c.in_ok-groups.groups.items c.min-count.result c.in_ok-groups.ensures.count (omega (arith, c.min-count.ensures, c.requires.some)) c.in_ok-groups.ensures.each)
 
--- src/crew.rt
 pub invariant_of-result : goal.invariant_of-result
 invariant_of-result g c =
     let job = c.args.job.now in
@@ -32,7 +30,6 @@ invariant_of-result g c =
     let crew : IsCrew job keeps new = subst (λ (one : Bool). IsCrew job one new) same c.in_ok-lay_all.ensures.ready in
     subst (λ (groups : List SeenGroup). IsCrew job keeps groups × HasTold job 1 c.in_ok-room.room × (false ≡ true → AreThrough job groups)) (sym items) (crew, c.in_ok-room.ensures, λ none. absurd (true≢false (sym none)))
 
--- src/crew.rt
 pub returns-clause-groups : goal.returns-clause-groups
 returns-clause-groups g c =
     let job = c.args.job.now in
@@ -45,7 +42,6 @@ returns-clause-groups g c =
     let dealt = are_dealt job told new c.in_ok-lay_all.ensures.ready c.args.workers (job.checked.board.chips + 1) (omega arith) many in
     subst (λ (groups : List SeenGroup). AreDealt c.args.workers (job.checked.board.chips + 1) (node_numbers groups)) (sym items) dealt
 
--- src/crew.rt
 pub returns-clause-numbers : goal.returns-clause-numbers
 returns-clause-numbers g c =
     let first = c.in_ok-groups.groups.items in

@@ -8,7 +8,6 @@ use Rattle.vw_crew.proofs.OwnEnds.{with_take}
 use Rattle.vw_crew.proofs.Places.{place_within}
 use Rattle.vw_crew.proofs.ends.NodeEnds.lift_take.Goals as goal
 
--- src/ends.rt
 pub invariant_of-self : goal.invariant_of-self
 invariant_of-self g c =
     let own : SeenOwn = record { job = c.self.inside.job.value; node = c.self.inside.node; puts = map (option_map g.T.PutEnd.seen) c.self.inside.puts.items; takes = map (option_map g.U.TakeEnd.seen) c.self.inside.takes.items } in
@@ -18,7 +17,6 @@ invariant_of-self g c =
     subst (λ (takes : List (Option SeenTakeEnd)). AreOwn (record { job = c.self.inside.job.value; node = c.self.inside.node; puts = map (option_map g.T.PutEnd.seen) c.self.inside.puts.items; takes = takes })) (sym (map-set (option_map g.U.TakeEnd.seen) c.self.inside.takes.items c.args.link c.take.new.self ∙ ap (λ (place : Option _). set own.takes c.args.link (option_map g.U.TakeEnd.seen place)) none))
     (with_take own c.self.invariant c.args.link within None (λ end is. absurd (none-some end is)))
 
--- src/ends.rt
 pub returns-clause-end : goal.returns-clause-end
 returns-clause-end g c =
     let own : SeenOwn = record { job = c.self.inside.job.value; node = c.self.inside.node; puts = map (option_map g.T.PutEnd.seen) c.self.inside.puts.items; takes = map (option_map g.U.TakeEnd.seen) c.self.inside.takes.items } in
@@ -30,7 +28,6 @@ returns-clause-end g c =
     let fine = c.self.invariant.takes c.args.link (g.U.TakeEnd.seen c.in-Some.end) here in
     subst (λ (one : SeenOwn). GivesTake one c.args.link (g.U.TakeEnd.seen c.in-Some.end)) c.self.view_is (here, fine.0, fine.1)
 
--- src/ends.rt
 pub returns-clause-rest : goal.returns-clause-rest
 returns-clause-rest g c =
     ap (λ (takes : List (Option SeenTakeEnd)). record { job = c.self.inside.job.value; node = c.self.inside.node; puts = map (option_map g.T.PutEnd.seen) c.self.inside.puts.items; takes = takes }) (map-set (option_map g.U.TakeEnd.seen) c.self.inside.takes.items c.args.link c.take.new.self ∙ ap (λ (place : Option _). set (map (option_map g.U.TakeEnd.seen) c.self.inside.takes.items) c.args.link (option_map g.U.TakeEnd.seen place)) c.take.ensures.after)

@@ -7,7 +7,6 @@ use Rattle.vw_crew.proofs.OwnEnds.{no_own}
 use Rattle.vw_crew.proofs.Places.{none_mapped}
 use Rattle.vw_crew.proofs.ends.NodeEnds.make.Goals as goal
 
--- src/ends.rt
 pub invariant_of-result : goal.invariant_of-result
 invariant_of-result g c =
     let puts = none_mapped g.T.PutEnd.seen c.in_ok-puts.puts.items (length c.links-links.result.now) c.in_ok-puts.ensures in

@@ -8,7 +8,6 @@ use Rattle.vw_crew.specs.Ends.{AreOwn, SeenOwn}
 use Rattle.vw_crew.proofs.OwnEnds.{with_take}
 use Rattle.vw_crew.proofs.ends.NodeEnds.place_take.Goals as goal
 
--- src/ends.rt
 pub invariant_of-self : goal.invariant_of-self
 invariant_of-self g c =
     let own : SeenOwn = record { job = c.self.inside.job.value; node = c.self.inside.node; puts = map (option_map g.T.PutEnd.seen) c.self.inside.puts.items; takes = map (option_map g.U.TakeEnd.seen) c.self.inside.takes.items } in
@@ -19,7 +18,6 @@ invariant_of-self g c =
     let its : g.U.TakeEnd.seen c.args.end ≡ end = ap (λ (place : Option SeenTakeEnd). unwrap_or place end) is in
     (sym (ap (λ (one : SeenTakeEnd). one.link) its) ∙ c.requires.1, sym (ap (λ (one : SeenTakeEnd). one.words) its) ∙ c.requires.2 ∙ ap (λ (one : SeenOwn). script one.job c.args.link) (sym same))))
 
--- src/ends.rt
 pub returns : goal.returns
 returns g c =
     ap (λ (takes : List (Option SeenTakeEnd)). record { job = c.self.inside.job.value; node = c.self.inside.node; puts = map (option_map g.T.PutEnd.seen) c.self.inside.puts.items; takes = takes }) (map-set (option_map g.U.TakeEnd.seen) c.self.inside.takes.items c.args.link (Some c.args.end))

@@ -8,7 +8,6 @@ use Rattle.vw_crew.specs.Ends.{AreOwn, SeenOwn, ends_of, put_at}
 use Rattle.vw_crew.proofs.OwnEnds.{put_done}
 use Rattle.vw_crew.proofs.ends.NodeEndsEnds.put.Goals as goal
 
--- src/ends.rt
 pub invariant_of-self : goal.invariant_of-self
 invariant_of-self g c =
     let own : SeenOwn = record { job = c.self.inside.job.value; node = c.self.inside.node; puts = map (option_map g.T.PutEnd.seen) c.self.inside.puts.items; takes = map (option_map g.U.TakeEnd.seen) c.self.inside.takes.items } in
@@ -18,7 +17,6 @@ invariant_of-self g c =
     subst (λ (puts : List (Option SeenPutEnd)). AreOwn (record { job = c.self.inside.job.value; node = c.self.inside.node; puts = puts; takes = map (option_map g.U.TakeEnd.seen) c.self.inside.takes.items })) (sym (map-set (option_map g.T.PutEnd.seen) c.self.inside.puts.items c.args.link (Some c.put.new.self)))
     (put_done own c.self.invariant c.args.link (g.T.PutEnd.seen c.in-Some.end) there c.put.result (g.T.PutEnd.seen c.put.new.self) c.put.ensures).0
 
--- src/ends.rt
 pub returns : goal.returns
 returns g c =
     let own : SeenOwn = record { job = c.self.inside.job.value; node = c.self.inside.node; puts = map (option_map g.T.PutEnd.seen) c.self.inside.puts.items; takes = map (option_map g.U.TakeEnd.seen) c.self.inside.takes.items } in

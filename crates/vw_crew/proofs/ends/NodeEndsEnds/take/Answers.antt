@@ -8,7 +8,6 @@ use Rattle.vw_crew.specs.Ends.{AreOwn, SeenOwn, ends_of, take_at}
 use Rattle.vw_crew.proofs.OwnEnds.{take_done}
 use Rattle.vw_crew.proofs.ends.NodeEndsEnds.take.Goals as goal
 
--- src/ends.rt
 pub invariant_of-self : goal.invariant_of-self
 invariant_of-self g c =
     let own : SeenOwn = record { job = c.self.inside.job.value; node = c.self.inside.node; puts = map (option_map g.T.PutEnd.seen) c.self.inside.puts.items; takes = map (option_map g.U.TakeEnd.seen) c.self.inside.takes.items } in
@@ -18,7 +17,6 @@ invariant_of-self g c =
     subst (λ (takes : List (Option SeenTakeEnd)). AreOwn (record { job = c.self.inside.job.value; node = c.self.inside.node; puts = map (option_map g.T.PutEnd.seen) c.self.inside.puts.items; takes = takes })) (sym (map-set (option_map g.U.TakeEnd.seen) c.self.inside.takes.items c.args.link (Some c.take.new.self)))
     (take_done own c.self.invariant c.args.link (g.U.TakeEnd.seen c.in-Some.end) there c.take.result (g.U.TakeEnd.seen c.take.new.self) c.take.ensures).0
 
--- src/ends.rt
 pub returns : goal.returns
 returns g c =
     let own : SeenOwn = record { job = c.self.inside.job.value; node = c.self.inside.node; puts = map (option_map g.T.PutEnd.seen) c.self.inside.puts.items; takes = map (option_map g.U.TakeEnd.seen) c.self.inside.takes.items } in

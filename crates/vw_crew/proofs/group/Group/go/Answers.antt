@@ -7,7 +7,6 @@ use Rattle.vw_crew.proofs.Goings.{going_keeps}
 use Rattle.vw_crew.proofs.Members.{gone_stays, gone_work}
 use Rattle.vw_crew.proofs.group.Group.go.Goals as goal
 
--- src/group.rt
 pub go-requires-clause-fits : goal.go-requires-clause-fits
 go-requires-clause-fits g c =
     let nodes = c.self.inside.nodes.items in
@@ -17,7 +16,6 @@ go-requires-clause-fits g c =
     let own_is : slice_get ends c.args.place ≡ Some c.index_mut.result.now = slice_get-get_or ends c.args.place c.index_mut.result.now (omega (arith, low, c.self.invariant)) ∙ ap Some (sym c.index_mut.ensures.value) in
     (subst AreAtWork (sym c.self.view_is) c.requires.work c.args.place c.index_mut-node.result.now c.index_mut.result.now node_is own_is).fits
 
--- src/group.rt
 pub go-requires-clause-agrees : goal.go-requires-clause-agrees
 go-requires-clause-agrees g c =
     let nodes = c.self.inside.nodes.items in
@@ -27,7 +25,6 @@ go-requires-clause-agrees g c =
     let own_is : slice_get ends c.args.place ≡ Some c.index_mut.result.now = slice_get-get_or ends c.args.place c.index_mut.result.now (omega (arith, low, c.self.invariant)) ∙ ap Some (sym c.index_mut.ensures.value) in
     (subst AreAtWork (sym c.self.view_is) c.requires.work c.args.place c.index_mut-node.result.now c.index_mut.result.now node_is own_is).agrees
 
--- src/group.rt
 pub returns-clause-work : goal.returns-clause-work
 returns-clause-work g c =
     let group : SeenGroup = record { number = c.self.inside.number; nodes = c.self.inside.nodes.items; ends = c.self.inside.ends.items } in
@@ -36,7 +33,6 @@ returns-clause-work g c =
     let own_is : slice_get group.ends c.args.place ≡ Some c.index_mut.result.now = slice_get-get_or group.ends c.args.place c.index_mut.result.now (omega (arith, low, c.self.invariant)) ∙ ap Some (sym c.index_mut.ensures.value) in
     gone_work group (subst AreAtWork (sym c.self.view_is) c.requires.work) c.args.place c.index_mut-node.result.now c.go.new.self c.index_mut.result.now c.go.new.ends node_is own_is (record { fits = c.go.ensures.fits; agrees = c.go.ensures.agrees })
 
--- src/group.rt
 pub returns-clause-stays : goal.returns-clause-stays
 returns-clause-stays g c =
     let group : SeenGroup = record { number = c.self.inside.number; nodes = c.self.inside.nodes.items; ends = c.self.inside.ends.items } in

@@ -6,7 +6,6 @@ use Rattle.vw_node.specs.declared.node.Node.{Node}
 use Rattle.vw_crew.specs.Groups.{SeenGroup}
 use Rattle.vw_crew.proofs.group.Group.is_done.Goals as goal
 
--- src/group.rt
 pub loop-node-preserved : goal.loop-node-preserved
 loop-node-preserved g c = λ place node is below.
     let nodes = c.deref-node-items.result.now in
@@ -18,7 +17,6 @@ loop-node-preserved g c = λ place node is below.
     ap (λ (any : Node). any.clock) its ∙ c.if-node-clocks.false in
     ⊎_elim if_before if_last (cases_lt place c.loop-node.node-index)
 
--- src/group.rt
 pub returns-then-node-clocks-clause-rest : goal.returns-then-node-clocks-clause-rest
 returns-then-node-clocks-clause-rest g c =
     let nodes = c.deref-node-items.result.now in
@@ -26,7 +24,6 @@ returns-then-node-clocks-clause-rest g c =
     let there : slice_get c.args.self.now.nodes c.loop-node.node-index ≡ Some c.node-item.result = sym (ap (λ (list : List Node). slice_get list c.loop-node.node-index) c.deref-node-items.ensures.value ∙ ap (λ (group : SeenGroup). slice_get group.nodes c.loop-node.node-index) c.self.view_is) ∙ here in
     (c.loop-node.node-index, (c.node-item.result, (there, c.if-node-clocks.true)))
 
--- src/group.rt
 pub returns-clause-done : goal.returns-clause-done
 returns-clause-done g c = λ place node is.
     let there : slice_get c.deref-node-items.result.now place ≡ Some node = ap (λ (list : List Node). slice_get list place) c.deref-node-items.ensures.value ∙ ap (λ (group : SeenGroup). slice_get group.nodes place) c.self.view_is ∙ is in

@@ -5,7 +5,6 @@ use Rattle.vw_node.specs.Fits.{IsShare}
 use Rattle.vw_crew.proofs.Filling.{one_filled}
 use Rattle.vw_crew.proofs.group.Group.make.Goals as goal
 
--- src/group.rt
 pub loop-node-preserved : goal.loop-node-preserved
 loop-node-preserved g c =
     let job = c.args.job.now in

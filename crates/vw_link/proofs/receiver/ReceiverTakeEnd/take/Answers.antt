@@ -4,11 +4,9 @@ use Rattle.vw_link.specs.Ends.{Keeps}
 use Rattle.vw_link.proofs.RuleSteps.{takes}
 use Rattle.vw_link.proofs.receiver.ReceiverTakeEnd.take.Goals as goal
 
--- src/receiver.rt:91:15
 pub pop_as-requires-clause-rule : goal.pop_as-requires-clause-rule
 pop_as-requires-clause-rule g c = (takes _ _ c.self.invariant.1, λ _ _ _ _. tt)
 
--- src/receiver.rt:107:17
 pub invariant_of-self : goal.invariant_of-self
 invariant_of-self g c =
     let step = c.in-Some.ensures.rule in

@@ -2,6 +2,5 @@ use Rattle.std.proofs.Common.{rules}
 use Rattle.vw_link.proofs.RuleSteps.{full, puts}
 use Rattle.vw_link.proofs.sender.SenderPutEnd.put.Goals as goal
 
--- src/sender.rt:67:15
 pub push_as-requires-clause-rule : goal.push_as-requires-clause-rule
 push_as-requires-clause-rule g c = (puts _ _ _ _ c.self.invariant.1 (search rules), full _ _ c.self.invariant.1)

@@ -2,7 +2,6 @@ use Rattle.std.proofs.Common.{sym, ◌∙◌, ap, length, List, Bool}
 use Rattle.vw_net.proofs.Cuts.{cut_length}
 use Rattle.vw_net.proofs.rows.Rows.len.Goals as goal
 
--- src/rows.rt:37:5
 pub returns : goal.returns
 returns c =
     let ends = c.self.inside.ends in

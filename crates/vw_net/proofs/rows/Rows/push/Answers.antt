@@ -16,7 +16,6 @@ invariant_of-self-in_default c =
     subst (λ (n : ℕ). AreEnds 0 c.push.new.self.items n) (sym size)
     (subst (λ (xs : List ℕ). AreEnds 0 xs (length bits + length row)) (sym put) grown)
 
--- src/rows.rt:53:5
 pub returns-clause-pushed : goal.returns-clause-pushed
 returns-clause-pushed c =
     let bits = c.self.inside.bits.items in

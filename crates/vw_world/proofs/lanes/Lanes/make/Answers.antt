@@ -5,7 +5,6 @@ use Rattle.vw_world.specs.Lanes.{AreLanes, SeenLane}
 use Rattle.vw_world.proofs.FirstBoards.{fresh_are, made_lanes}
 use Rattle.vw_world.proofs.lanes.Lanes.make.Goals as goal
 
--- src/lanes.rt:42:9
 pub invariant_of-result : goal.invariant_of-result
 invariant_of-result c =
     let board = c.board.ensures ∙ ap (λ (checked : Checked). checked.board) c.checked.ensures in

@@ -6,7 +6,6 @@ use Rattle.vw_world.specs.Worlds.{node_at}
 use Rattle.vw_world.proofs.Rounds.{all_done, whole_slice}
 use Rattle.vw_world.proofs.world.World.finish.Goals as goal
 
--- src/world.rt:67:5
 pub returns-clause-done : goal.returns-clause-done
 returns-clause-done c =
     let job = c.self.inside.job.now in
