@@ -23,7 +23,8 @@ IsBarred {V = V} told numbers (makes A Good Bad Comes apart sure next) =
     × ((x : A) (good : Good x) → IsBarred told numbers (next x good))
 
 -- a stage at an absent file, and one before it
-pub barred_here : {V : Vocabulary} (told : List ℕ → Told) (numbers : List ℕ) {A : Type 0} (kind : Kind V A) (name : List ℕ) (next : A → Course V) → told name ≡ absent → IsBarred told numbers (stage kind name next)
+pub barred_here : {V : Vocabulary} (told : List ℕ → Told) (numbers : List ℕ) {A : Type 0} (kind : Kind V A) (name : List ℕ) (next : A → Course V)
+    → told name ≡ absent → IsBarred told numbers (stage kind name next)
 barred_here told numbers kind name next gone = inl gone
 
 pub barred_later : {V : Vocabulary} (told : List ℕ → Told) (numbers : List ℕ) {A : Type 0} (kind : Kind V A) (name : List ℕ) (next : A → Course V)
@@ -44,7 +45,8 @@ module _ (V : Vocabulary) (numbers : List ℕ) (call : SeenCall V.Word) (answer 
   unworked : (number : ℕ) → NothingDone before after → call.status ≡ number → IsOneOf (7 ∷ 9 ∷ numbers) number → IsUnworked numbers call
   unworked number nothing is one = (nothing, subst (IsOneOf (7 ∷ 9 ∷ numbers)) (sym is) one)
 
-  refusing : (Bad : V.Reason → Type 0) (so : Answer V) → Ends V so call.err_before call.err_after call.status → ((reason : V.Reason) → Bad reason → IsOneOf numbers (V.status reason)) → EndsRefused V Bad before after so → IsUnworked numbers call
+  refusing : (Bad : V.Reason → Type 0) (so : Answer V) → Ends V so call.err_before call.err_after call.status
+      → ((reason : V.Reason) → Bad reason → IsOneOf numbers (V.status reason)) → EndsRefused V Bad before after so → IsUnworked numbers call
   refusing Bad (Ok done) so_ends all refused = absurd refused
   refusing Bad (Err (ReadFault file)) so_ends all refused = absurd refused
   refusing Bad (Err WriteFault) so_ends all refused = absurd refused
@@ -52,7 +54,8 @@ module _ (V : Vocabulary) (numbers : List ℕ) (call : SeenCall V.Word) (answer 
   refusing Bad (Err (Refused reason)) so_ends all (same, bad) =
       unworked (V.status reason) (nothing_done V before after same) so_ends.0 (inr (inr (all reason bad)))
 
-  reading : (file : V.File) (name : List ℕ) (so : Answer V) → Ends V so call.err_before call.err_after call.status → EndsReading V file name before after so → IsUnworked numbers call
+  reading : (file : V.File) (name : List ℕ) (so : Answer V) → Ends V so call.err_before call.err_after call.status
+      → EndsReading V file name before after so → IsUnworked numbers call
   reading file name (Ok done) so_ends read = absurd read
   reading file name (Err (ReadFault other)) so_ends (is, counted, alone) =
       unworked 7 (shelf_alone V before after alone) so_ends.0 (inl refl)
@@ -71,5 +74,6 @@ module _ (V : Vocabulary) (numbers : List ℕ) (call : SeenCall V.Word) (answer 
   barred (makes A Good Bad Comes apart sure next) (all, later) (inr (x, good, follows)) = barred (next x good) (later x good) follows
 
 -- a call whose course reads an absent file, or is refused before
-pub call_barred : {V : Vocabulary} (numbers : List ℕ) (course : Course V) (call : SeenCall V.Word) → IsCallOf course call → IsBarred call.before.shelf.told numbers course → IsUnworked numbers call
+pub call_barred : {V : Vocabulary} (numbers : List ℕ) (course : Course V) (call : SeenCall V.Word) → IsCallOf course call
+    → IsBarred call.before.shelf.told numbers course → IsUnworked numbers call
 call_barred {V = V} numbers course call is bars = barred V numbers call is.answer is.ends course bars is.follows

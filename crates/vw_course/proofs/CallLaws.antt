@@ -140,7 +140,8 @@ module _ (V : Vocabulary) (before after : SeenOutside V.Word) where
       memory_of course is.0 is.1
 
   -- a call that is refused could have ended for want of memory
-  instead_here : (reason : V.Reason) (place : Course V) → EndsHere before after (Err (Refused reason)) place → (x : Unit {0}) × EndsHere before after (Err NoMemory) place
+  instead_here : (reason : V.Reason) (place : Course V) → EndsHere before after (Err (Refused reason)) place
+      → (x : Unit {0}) × EndsHere before after (Err NoMemory) place
   instead_here reason (works over work) (did, does, breaks, shelf, part) = (tt, (did, does, shelf, part))
   instead_here reason (refuses other) (same, is) = (tt, same)
   instead_here reason (reads file name next) ends = absurd ends

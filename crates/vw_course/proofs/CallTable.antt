@@ -79,7 +79,8 @@ module _ {V : Vocabulary} (told : List ℕ → Told) (files : Files V) where
   abbrev Refusing : (Course V → V.Reason → Type 0)
   Refusing course reason = May told (RefusesHere reason) course
 
-  more_refusals : (one more : Course V) → ((reason : V.Reason) → Refusing one reason → Refusing more reason) → (place : Course V) → IsToRefuse (Refusing one) place → IsToRefuse (Refusing more) place
+  more_refusals : (one more : Course V) → ((reason : V.Reason) → Refusing one reason → Refusing more reason) → (place : Course V)
+      → IsToRefuse (Refusing one) place → IsToRefuse (Refusing more) place
   more_refusals one more may (works over work) is = is
   more_refusals one more may (refuses reason) is = may reason is
   more_refusals one more may (reads file name next) is = is
@@ -109,14 +110,16 @@ module _ {V : Vocabulary} (told : List ℕ → Told) (files : Files V) where
   abbrev Working : (Course V → Work V.Word → Type 0)
   Working course did = May told (WorksHere told did) course
 
-  more_work : (one more : Course V) → ((did : Work V.Word) → Working one did → Working more did) → (place : Course V) → IsToWork told files (Working one) place → IsToWork told files (Working more) place
+  more_work : (one more : Course V) → ((did : Work V.Word) → Working one did → Working more did) → (place : Course V)
+      → IsToWork told files (Working one) place → IsToWork told files (Working more) place
   more_work one more may (works over work) (again_is, is) = (again_is, may work is)
   more_work one more may (refuses reason) is = is
   more_work one more may (reads file name next) is = is
   more_work one more may (makes A Good Bad Comes apart sure next) is = is
 
   -- and one that is to do work is to do work that it may do
-  workable : (course : Course V) → StandsAt told files (IsToWork told files (λ did. Unit {0})) course → StandsAt told files (IsToWork told files (Working course)) course
+  workable : (course : Course V) → StandsAt told files (IsToWork told files (λ did. Unit {0})) course
+      → StandsAt told files (IsToWork told files (Working course)) course
   workable (works over work) (again_is, is) = (again_is, does_work V told files over work again_is)
   workable (refuses reason) is = is
   workable (reads file name next) (inl is) = inl is

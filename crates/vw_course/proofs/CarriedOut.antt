@@ -11,7 +11,8 @@ use Rattle.vw_course.specs.Places.{IsOneOf, Files}
 use Rattle.vw_course.specs.Statuses.{DidSome, IsDone, IsWriteStop, IsMemoryStop, IsCarriedOut, IsOneMore, NoFaultAt, CompletesAt, LeavesPart}
 
 module _ (V : Vocabulary) (What : Work V.Word → Type 0) (call : SeenCall V.Word) where
-  none_counted : (files : Files V) (file : V.File) (name : List ℕ) → NoFaultAt V files call → CountsFault name call.before.shelf call.after.shelf → IsOneOf files (file, name) → ⊥
+  none_counted : (files : Files V) (file : V.File) (name : List ℕ) → NoFaultAt V files call
+      → CountsFault name call.before.shelf call.after.shelf → IsOneOf files (file, name) → ⊥
   none_counted [] file name none counted one = one
   none_counted ((other, own) ∷ files) file name none counted (inl same) =
       none.0 (subst (λ (n : List ℕ). IsOneMore (call.before.shelf.faults n) (call.after.shelf.faults n)) (ap (λ (p : V.File × List ℕ). p.1) same) counted.here)

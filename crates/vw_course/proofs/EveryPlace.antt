@@ -81,16 +81,21 @@ abbrev pub KeepsTo : {V : Vocabulary} → Files V → Files V → List ℕ → L
 KeepsTo files anew numbers broken course = Every (Keeps files anew numbers broken) course
 
 module _ {V : Vocabulary} (files anew : Files V) (numbers broken : List ℕ) where
-  one_number : {A : Type 0} {number : ℕ} (judged : Judged V A number) → IsOneOf numbers number → (reason : V.Reason) → judged.Bad reason → IsOneOf numbers (V.status reason)
+  one_number : {A : Type 0} {number : ℕ} (judged : Judged V A number) → IsOneOf numbers number → (reason : V.Reason) → judged.Bad reason
+      → IsOneOf numbers (V.status reason)
   one_number judged one reason bad = subst (IsOneOf numbers) (sym (judged.its_status reason bad)) one
 
-  pub keeps_judged : {A : Type 0} {number : ℕ} (judged : Judged V A number) (next : A → Course V) → IsOneOf numbers number → ((x : A) → KeepsTo files anew numbers broken (next x)) → KeepsTo files anew numbers broken (judges judged next)
+  pub keeps_judged : {A : Type 0} {number : ℕ} (judged : Judged V A number) (next : A → Course V) → IsOneOf numbers number
+      → ((x : A) → KeepsTo files anew numbers broken (next x)) → KeepsTo files anew numbers broken (judges judged next)
   keeps_judged judged next one later = (one_number judged one, λ x good. later x)
 
-  pub keeps_made : {A : Type 0} {number : ℕ} (making : Making V A number) (next : A → Course V) → IsOneOf numbers number → ((x : A) → KeepsTo files anew numbers broken (next x)) → KeepsTo files anew numbers broken (made making next)
+  pub keeps_made : {A : Type 0} {number : ℕ} (making : Making V A number) (next : A → Course V) → IsOneOf numbers number
+      → ((x : A) → KeepsTo files anew numbers broken (next x)) → KeepsTo files anew numbers broken (made making next)
   keeps_made making next one later = (one_number making.judged one, λ x good. later x)
 
-  pub keeps_stage : {A : Type 0} (kind : Kind V A) (name : List ℕ) (next : A → Course V) → IsOneOf files (kind.file, name) → IsOneOf numbers kind.number → ((x : A) → KeepsTo files anew numbers broken (next x)) → KeepsTo files anew numbers broken (stage kind name next)
+  pub keeps_stage : {A : Type 0} (kind : Kind V A) (name : List ℕ) (next : A → Course V) → IsOneOf files (kind.file, name)
+      → IsOneOf numbers kind.number → ((x : A) → KeepsTo files anew numbers broken (next x))
+      → KeepsTo files anew numbers broken (stage kind name next)
   keeps_stage kind name next at one later = (at, λ text. keeps_judged (kind.judged text) next one later)
 
   -- so it keeps to more statuses
@@ -113,7 +118,8 @@ abbrev pub AreHeld : {F : Type 0} → (List ℕ → Told) → List (F × List �
 AreHeld told [] = Unit {0}
 AreHeld told ((file, name) ∷ files) = ((text : List ℕ) × (told name ≡ held text)) × AreHeld told files
 
-pub one_held : {F : Type 0} (told : List ℕ → Told) (files : List (F × List ℕ)) (file : F) (name : List ℕ) → AreHeld told files → IsOneOf files (file, name) → (text : List ℕ) × (told name ≡ held text)
+pub one_held : {F : Type 0} (told : List ℕ → Told) (files : List (F × List ℕ)) (file : F) (name : List ℕ) → AreHeld told files
+    → IsOneOf files (file, name) → (text : List ℕ) × (told name ≡ held text)
 one_held told [] file name are one = absurd one
 one_held {F = F} told ((other, own) ∷ files) file name are (inl is) =
     (are.0.0, subst (λ (p : F × List ℕ). told p.1 ≡ held are.0.0) (sym is) are.0.1)
@@ -152,7 +158,8 @@ module _ {V : Vocabulary} (told : List ℕ → Told) (files anew : Files V) (num
   broken_one reason did may = every_place told (BreaksHere told reason did) Kept (broken_here reason did) course keeps may
 
   -- nor does it break off with another one
-  pub no_break : (number : ℕ) → IsNoneOf broken number → (reason : V.Reason) (did : Work V.Word) → V.status reason ≡ number → May told (BreaksHere told reason did) course → ⊥
+  pub no_break : (number : ℕ) → IsNoneOf broken number → (reason : V.Reason) (did : Work V.Word) → V.status reason ≡ number
+      → May told (BreaksHere told reason did) course → ⊥
   no_break number none reason did same may = none_one broken number none (subst (IsOneOf broken) same (broken_one reason did may))
 
   -- nor at all where the files that it reads again are held
@@ -188,7 +195,8 @@ module _ {V : Vocabulary} (told : List ℕ → Told) (files anew : Files V) (num
   again_by once file name its is = absurd its
   again_by (again other own Broken Allowed) file name (same, so) is = one_is anew same so is.0
 
-  again_here : (file : V.File) (name : List ℕ) (did : Work V.Word) (place : Course V) → ReadsAgainHere told file name did place → Kept place → IsOneOf anew (file, name)
+  again_here : (file : V.File) (name : List ℕ) (did : Work V.Word) (place : Course V) → ReadsAgainHere told file name did place → Kept place
+      → IsOneOf anew (file, name)
   again_here file name did (works over work) here is = again_by over file name here.1 is
   again_here file name did (refuses reason) here is = absurd here
   again_here file name did (reads its own next) here is = absurd here

@@ -45,7 +45,8 @@ module _ (V : Vocabulary) where
 
   -- nothing was made
   module _ (Bad : V.Reason → Type 0) (before : SeenOutside V.Word) where
-    pub judging_ends : {B : Type 0} (Made : B → Type 0) (unfinished : Unfinished V.File V.Reason) → EndsJudging Made Bad (Err unfinished) → EndsRefused V Bad before before (Err unfinished)
+    pub judging_ends : {B : Type 0} (Made : B → Type 0) (unfinished : Unfinished V.File V.Reason) → EndsJudging Made Bad (Err unfinished)
+        → EndsRefused V Bad before before (Err unfinished)
     judging_ends Made (ReadFault file) ends = absurd ends
     judging_ends Made WriteFault ends = absurd ends
     judging_ends Made NoMemory ends = refl
@@ -53,7 +54,8 @@ module _ (V : Vocabulary) where
 
 -- what was made of a text may be said with the text, which the name may have
 pub with_text : {F A R : Type 0} (file : F) (name : List ℕ) (Made : List ℕ → A → Type 0) (Bad : List ℕ → R → Type 0) (before after : SeenShelf) (x : A)
-    → EndsStage file name Made Bad before after (Ok x) → EndsStage file name (λ text one. IsTextOf (before.told name) text × Made text one) Bad before after (Ok x)
+    → EndsStage file name Made Bad before after (Ok x)
+    → EndsStage file name (λ text one. IsTextOf (before.told name) text × Made text one) Bad before after (Ok x)
 with_text file name Made Bad before after x (same, text, of, is) = (same, text, of, (of, is))
 
 -- ---- over the shelf and out
@@ -79,7 +81,8 @@ module _ {S O : Type 0} (seen_shelf : S → SeenShelf) (seen_out : O → SeenSin
   abbrev ItGoes : Course V → Outside S O → Outside S O → Answer V → Type 0
   ItGoes course before after answer = GoesOver seen_shelf seen_out V Moved course before after answer
 
-  pub same_still : (before mid after : Outside S O) → IsSame seen_shelf seen_out before mid → IsSame seen_shelf seen_out mid after → IsSame seen_shelf seen_out before after
+  pub same_still : (before mid after : Outside S O) → IsSame seen_shelf seen_out before mid → IsSame seen_shelf seen_out mid after
+      → IsSame seen_shelf seen_out before after
   same_still before mid after first then =
       record { shelf = then.shelf ∙ first.shelf; out = then.out ∙ first.out }
 
@@ -118,7 +121,8 @@ module _ {S O : Type 0} (seen_shelf : S → SeenShelf) (seen_out : O → SeenSin
     goes_on {before = before} {mid = mid} {after = after} {answer = answer} x same out ends rest =
         goes_past kind name (λ text. (kind.judged text).Good) next before mid same out after answer x ends (λ text is. (x, is, rest))
 
-    pub goes_not_on : IsStill V Moved → {before mid : Outside S O} (unfinished : Unfinished V.File V.Reason) → IsSame seen_shelf seen_out before mid → mid.out.now ≡ before.out.now
+    pub goes_not_on : IsStill V Moved → {before mid : Outside S O} (unfinished : Unfinished V.File V.Reason)
+        → IsSame seen_shelf seen_out before mid → mid.out.now ≡ before.out.now
         → EndsStage kind.file name (λ text. (kind.judged text).Good) (λ text. (kind.judged text).Bad) (seen_shelf before.shelf.now) (seen_shelf mid.shelf.now) (Err unfinished)
         → ItGoes (stage kind name next) before mid (Err unfinished)
     goes_not_on still {before = before} {mid = mid} unfinished same out ends =
@@ -126,7 +130,8 @@ module _ {S O : Type 0} (seen_shelf : S → SeenShelf) (seen_out : O → SeenSin
 
   -- the same, where the rest is followed for each good thing of a kind, and what was made leads to one
   module _ {A B : Type 0} (kind : Kind V A) (name : List ℕ) (Made : List ℕ → B → Type 0) (next : A → Course V) where
-    pub goes_for_each : {before mid after : Outside S O} {answer : Answer V} (Is : A → Type 0) (x : B) → IsSame seen_shelf seen_out before mid → mid.out.now ≡ before.out.now
+    pub goes_for_each : {before mid after : Outside S O} {answer : Answer V} (Is : A → Type 0) (x : B)
+        → IsSame seen_shelf seen_out before mid → mid.out.now ≡ before.out.now
         → EndsStage kind.file name Made (λ text. (kind.judged text).Bad) (seen_shelf before.shelf.now) (seen_shelf mid.shelf.now) (Ok x)
         → ((text : List ℕ) → Made text x → (y : A) × (kind.judged text).Good y × Is y)
         → ((y : A) → Is y → ItGoes (next y) mid after answer) → ItGoes (stage kind name next) before after answer
@@ -135,10 +140,12 @@ module _ {S O : Type 0} (seen_shelf : S → SeenShelf) (seen_out : O → SeenSin
 
   -- something was made, or judged
   module _ {A : Type 0} {number : ℕ} (making : Making V A number) (next : A → Course V) where
-    pub goes_made : {before after : Outside S O} {answer : Answer V} (x : A) → making.judged.Good x → ItGoes (next x) before after answer → ItGoes (made making next) before after answer
+    pub goes_made : {before after : Outside S O} {answer : Answer V} (x : A) → making.judged.Good x → ItGoes (next x) before after answer
+        → ItGoes (made making next) before after answer
     goes_made x good rest = record { same = rest.same; leads = record { follows = λ links links_after moved. inr (x, good, rest.leads.follows links links_after moved) } }
 
-    pub goes_unmade : IsStill V Moved → {B : Type 0} (Made : B → Type 0) (before : Outside S O) (unfinished : Unfinished V.File V.Reason) → EndsJudging Made making.judged.Bad (Err unfinished) → ItGoes (made making next) before before (Err unfinished)
+    pub goes_unmade : IsStill V Moved → {B : Type 0} (Made : B → Type 0) (before : Outside S O) (unfinished : Unfinished V.File V.Reason)
+        → EndsJudging Made making.judged.Bad (Err unfinished) → ItGoes (made making next) before before (Err unfinished)
     goes_unmade still Made before unfinished ends = record {
       same = record { shelf = refl; out = refl };
       leads = stays V Moved (made making next) (seen_shelf before.shelf.now) (seen_shelf before.shelf.now) (seen_out before.out.now) (seen_out before.out.now) (Err unfinished) still
@@ -146,10 +153,12 @@ module _ {S O : Type 0} (seen_shelf : S → SeenShelf) (seen_out : O → SeenSin
     }
 
   module _ {A : Type 0} {number : ℕ} (judged : Judged V A number) (next : A → Course V) where
-    pub goes_judged : {before after : Outside S O} {answer : Answer V} (x : A) → judged.Good x → ItGoes (next x) before after answer → ItGoes (judges judged next) before after answer
+    pub goes_judged : {before after : Outside S O} {answer : Answer V} (x : A) → judged.Good x → ItGoes (next x) before after answer
+        → ItGoes (judges judged next) before after answer
     goes_judged x good rest = record { same = rest.same; leads = record { follows = λ links links_after moved. inr (x, good, rest.leads.follows links links_after moved) } }
 
-    pub goes_unjudged : IsStill V Moved → {B : Type 0} (Made : B → Type 0) (before : Outside S O) (unfinished : Unfinished V.File V.Reason) → EndsJudging Made judged.Bad (Err unfinished) → ItGoes (judges judged next) before before (Err unfinished)
+    pub goes_unjudged : IsStill V Moved → {B : Type 0} (Made : B → Type 0) (before : Outside S O) (unfinished : Unfinished V.File V.Reason)
+        → EndsJudging Made judged.Bad (Err unfinished) → ItGoes (judges judged next) before before (Err unfinished)
     goes_unjudged still Made before unfinished ends = record {
       same = record { shelf = refl; out = refl };
       leads = stays V Moved (judges judged next) (seen_shelf before.shelf.now) (seen_shelf before.shelf.now) (seen_out before.out.now) (seen_out before.out.now) (Err unfinished) still
@@ -173,7 +182,8 @@ module _ {S O : Type 0} (seen_shelf : S → SeenShelf) (seen_out : O → SeenSin
     left_by (Err unwritten.WriteFault) failed = λ links. (writing text, refl, ap seen_shelf shelf, (failed, ((λ link. 0), refl)))
     left_by (Err unwritten.NoMemory) part = λ links. (writing text, refl, ap seen_shelf shelf, (part, ((λ link. 0), refl)))
 
-    pub goes_writing : IsStill V Moved → (written : Result (Unit {0}) Unwritten) (answer : Answer V) → answer ≡ answer_of written → WritesOut text (seen_out before.out.now) (seen_out after.out.now) written → ItGoes (writes text) before after answer
+    pub goes_writing : IsStill V Moved → (written : Result (Unit {0}) Unwritten) (answer : Answer V) → answer ≡ answer_of written
+        → WritesOut text (seen_out before.out.now) (seen_out after.out.now) written → ItGoes (writes text) before after answer
     goes_writing still written answer is left = record {
       same = same;
       leads = stays V Moved (writes text) (seen_shelf before.shelf.now) (seen_shelf after.shelf.now) (seen_out before.out.now) (seen_out after.out.now) answer still (subst Left (sym is) (left_by written left));
@@ -190,7 +200,8 @@ module _ (V : Vocabulary) (course : Course V) (before after : SeenOutside V.Word
   call_done silent is follows = record { answer = Ok tt; follows = follows; ends = (is, silent) }
 
   -- and what wasn't: where there was no memory for a refusal's line, it ended with want of memory
-  pub call_of : (unfinished : Unfinished V.File V.Reason) → Follows course before after (Err unfinished) → EndsUnfinished V unfinished err err_after status → IsCallOf course its_call
+  pub call_of : (unfinished : Unfinished V.File V.Reason) → Follows course before after (Err unfinished)
+      → EndsUnfinished V unfinished err err_after status → IsCallOf course its_call
   call_of (ReadFault file) follows ends = record { answer = Err (ReadFault file); follows = follows; ends = ends }
   call_of WriteFault follows ends = record { answer = Err WriteFault; follows = follows; ends = ends }
   call_of NoMemory follows ends = record { answer = Err NoMemory; follows = follows; ends = ends }

@@ -7,7 +7,7 @@ pub mod StageLaws
 pub mod BarredLaws
 pub mod GoesLaws
 pub mod CarriedOut
-pub mod Fronts
+pub mod Openings
 pub mod PartLaws
 pub mod OnTexts
 pub mod UnusedLinks

@@ -227,10 +227,12 @@ module _ (V : Vocabulary) (texts : List ℕ → List ℕ) where
       abbrev did_part : Work V.Word → Type 0
       did_part work = DidPart work before after
 
-      summed_there : (Part : Work V.Word → Type 0) (over : Again V) (work did : Work V.Word) → did ≡ summed summary work → Part did → SummedInside Part (works over work)
+      summed_there : (Part : Work V.Word → Type 0) (over : Again V) (work did : Work V.Word) → did ≡ summed summary work → Part did
+          → SummedInside Part (works over work)
       summed_there Part over work did does part = (work, (work, does_all over work, refl), subst Part does part)
 
-      pub failed_inside : (course : Course V) → Follows (on_texts texts summary course) before after (Err WriteFault) → SummedInside (λ work. FailedInPart work before after) course
+      pub failed_inside : (course : Course V) → Follows (on_texts texts summary course) before after (Err WriteFault)
+          → SummedInside (λ work. FailedInPart work before after) course
       failed_inside (works over work) (did, does, shelf, part) = summed_there failed_in over work did does part
       failed_inside (refuses reason) ends = absurd ends
       failed_inside (reads file name next) follows =

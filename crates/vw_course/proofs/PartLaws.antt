@@ -52,7 +52,8 @@ module _ (V : Vocabulary) (before after : SeenOutside V.Word) (unfinished : Unfi
         ⊎_elim (λ (goes : EndsIn (other x)). inl (inr (x, good, goes))) (λ (none : IsNoMemory). inr none) (also x rest)
 
   -- want of memory may come at the first stage as well
-  pub part_ends : {A : Type 0} (kind : Kind V A) (name : List ℕ) (other : A → Course V) → (EndsIn (stage kind name other) ⊎ IsNoMemory) → EndsIn (stage kind name other)
+  pub part_ends : {A : Type 0} (kind : Kind V A) (name : List ℕ) (other : A → Course V) → (EndsIn (stage kind name other) ⊎ IsNoMemory)
+      → EndsIn (stage kind name other)
   part_ends kind name other (inl goes) = goes
   part_ends kind name other (inr (is, same)) =
       subst (λ (one : Unfinished V.File V.Reason). Follows (stage kind name other) before after (Err one)) (sym is) (inl same)

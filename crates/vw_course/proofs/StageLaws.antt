@@ -32,7 +32,8 @@ module _ {V : Vocabulary} (told : List ℕ → Told) (files : Files V) (P : Cour
 
 -- the file is held, and its text is bad, for a reason as this
 pub at_bad : {V : Vocabulary} (told : List ℕ → Told) (files : Files V) {A : Type 0} (kind : Kind V A) (name : List ℕ) (next : A → Course V) (text : List ℕ) (Why : V.Reason → Type 0)
-    → IsOneOf files (kind.file, name) → told name ≡ held text → ((reason : V.Reason) → (kind.judged text).Bad reason → Why reason) → (reason : V.Reason) × (kind.judged text).Bad reason
+    → IsOneOf files (kind.file, name) → told name ≡ held text → ((reason : V.Reason) → (kind.judged text).Bad reason → Why reason)
+    → (reason : V.Reason) × (kind.judged text).Bad reason
     → StandsAt told files (IsToRefuse Why) (stage kind name next)
 at_bad told files kind name next text Why one holds why some = inr (one, text, holds, inl (some, why))
 
@@ -46,7 +47,8 @@ at_absent told files kind name next one gone = inl (one, gone)
 module _ {V : Vocabulary} (told : List ℕ → Told) where
   -- the work of a course with this line is that of the rest, behind something good
   module _ {A : Type 0} (kind : Kind V A) (name : List ℕ) (next : A → Course V) (text : List ℕ) (holds : told name ≡ held text) where
-    pub work_past : (did : Work V.Word) → May told (WorksHere told did) (stage kind name next) → (x : A) × (kind.judged text).Good x × May told (WorksHere told did) (next x)
+    pub work_past : (did : Work V.Word) → May told (WorksHere told did) (stage kind name next)
+        → (x : A) × (kind.judged text).Good x × May told (WorksHere told did) (next x)
     work_past did (inl here) = absurd here
     work_past did (inr (other, of, inl here)) = absurd here
     work_past did (inr (other, of, inr (x, good, later))) =
@@ -109,12 +111,14 @@ module _ {V : Vocabulary} (told : List ℕ → Told) (number : ℕ) (P : Course 
       absurd (behind.at_judging A kind.number (kind.judged text) next differs here)
   stage_behind kind name next differs (inr (text, of, inr (x, good, later))) = (text, of, x, good, later)
 
-  pub judged_behind : {A : Type 0} {its : ℕ} (judged : Judged V A its) (next : A → Course V) → its ≢ number → May told P (judges judged next) → (x : A) × judged.Good x × May told P (next x)
+  pub judged_behind : {A : Type 0} {its : ℕ} (judged : Judged V A its) (next : A → Course V) → its ≢ number
+      → May told P (judges judged next) → (x : A) × judged.Good x × May told P (next x)
   judged_behind {A = A} {its = its} judged next differs (inl here) =
       absurd (behind.at_judging A its judged next differs here)
   judged_behind judged next differs (inr (x, good, later)) = (x, good, later)
 
-  pub made_behind : {A : Type 0} {its : ℕ} (making : Making V A its) (next : A → Course V) → its ≢ number → May told P (made making next) → (x : A) × making.judged.Good x × May told P (next x)
+  pub made_behind : {A : Type 0} {its : ℕ} (making : Making V A its) (next : A → Course V) → its ≢ number → May told P (made making next)
+      → (x : A) × making.judged.Good x × May told P (next x)
   made_behind {A = A} {its = its} making next differs (inl here) =
       absurd (behind.at_making A its making next differs here)
   made_behind making next differs (inr (x, good, later)) = (x, good, later)

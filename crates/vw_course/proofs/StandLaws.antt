@@ -14,7 +14,8 @@ use Rattle.vw_course.proofs.CallLaws.{nothing_done, shelf_alone}
 
 -- ---- a file that is read again and is held
 
-pub held_work : {Word : Type 0} (one : Told) (text : List ℕ) (Allowed : Work Word → Type 0) (work did : Work Word) → one ≡ held text → IsDoneBy Allowed one work did → did ≡ work
+pub held_work : {Word : Type 0} (one : Told) (text : List ℕ) (Allowed : Work Word → Type 0) (work did : Work Word) → one ≡ held text
+    → IsDoneBy Allowed one work did → did ≡ work
 held_work one text Allowed work did is does = subst (λ (t : Told). IsDoneBy Allowed t work did) is does
 
 module _ (V : Vocabulary) (told : List ℕ → Told) (files : Files V) where
@@ -51,7 +52,8 @@ module _ (V : Vocabulary) (files : Files V) (call : SeenCall V.Word) where
       inr (record { status = ends.0; shelf = ap (λ (o : SeenOutside V.Word). o.shelf) same; part = inl (nothing_done V before after same); message = ends.1 })
 
   -- a read of one of these files
-  reading_stops : (file : V.File) (name : List ℕ) (answer : Answer V) → IsOneOf files (file, name) → EndsAs answer → EndsReading V file name before after answer → IsStopped V files call
+  reading_stops : (file : V.File) (name : List ℕ) (answer : Answer V) → IsOneOf files (file, name) → EndsAs answer
+      → EndsReading V file name before after answer → IsStopped V files call
   reading_stops file name (Ok done) one ends reading = absurd reading
   reading_stops file name (Err WriteFault) one ends reading = absurd reading
   reading_stops file name (Err NoMemory) one ends same = memory_stops same ends
@@ -67,7 +69,8 @@ module _ (V : Vocabulary) (files : Files V) (call : SeenCall V.Word) where
   reading_stops file name (Err (Refused reason)) one ends reading = absurd reading
 
   -- a refusal, for such a reason
-  refusing_ends : (Bad Why : V.Reason → Type 0) (answer : Answer V) → ((reason : V.Reason) → Bad reason → Why reason) → EndsAs answer → EndsRefused V Bad before after answer
+  refusing_ends : (Bad Why : V.Reason → Type 0) (answer : Answer V) → ((reason : V.Reason) → Bad reason → Why reason) → EndsAs answer
+      → EndsRefused V Bad before after answer
       → IsRefusedFor V Why call ⊎ IsStopped V files call
   refusing_ends Bad Why (Ok done) why ends refused = absurd refused
   refusing_ends Bad Why (Err WriteFault) why ends refused = absurd refused
@@ -81,7 +84,8 @@ module _ (V : Vocabulary) (files : Files V) (call : SeenCall V.Word) where
   stopped_alone (inr stopped) = stopped
 
   -- no refusal where something comes to be made
-  making_stops : (Bad : V.Reason → Type 0) (answer : Answer V) → ((reason : V.Reason) → Bad reason → ⊥) → EndsAs answer → EndsRefused V Bad before after answer → IsStopped V files call
+  making_stops : (Bad : V.Reason → Type 0) (answer : Answer V) → ((reason : V.Reason) → Bad reason → ⊥) → EndsAs answer
+      → EndsRefused V Bad before after answer → IsStopped V files call
   making_stops Bad answer none ends refused = stopped_alone (refusing_ends Bad (λ reason. ⊥) answer none ends refused)
 
   none_done : (What : Work V.Word → Type 0) → DidSome NoWork before after → DidSome What before after
@@ -106,7 +110,8 @@ module _ (V : Vocabulary) (files : Files V) (call : SeenCall V.Word) where
       subst (λ (n : List ℕ). IsOneOf files (file, n)) (sym so) (subst (λ (f : V.File). IsOneOf files (f, own)) (sym same) is.0)
 
   module _ (What : Work V.Word → Type 0) where
-    working_ends : (over : Again V) (work : Work V.Word) (answer : Answer V) → IsHeldAgain told files over → What work → EndsAs answer → EndsWorking over work before after answer → IsCarriedOut V What files call
+    working_ends : (over : Again V) (work : Work V.Word) (answer : Answer V) → IsHeldAgain told files over → What work → EndsAs answer
+        → EndsWorking over work before after answer → IsCarriedOut V What files call
     working_ends over work (Ok done) is what ends (did, does, leaves) =
         inl (record { did = did; is = subst What (sym (does_all V told files over work did is does)) what; status = ends.0; leaves = leaves; silent = ends.1 })
     working_ends over work (Err WriteFault) is what ends (did, does, shelf, part) =
@@ -124,7 +129,8 @@ module _ (V : Vocabulary) (files : Files V) (call : SeenCall V.Word) where
     }))
     working_ends over work (Err (Refused reason)) is what ends (did, does, breaks, shelf, part) = absurd (none_broken V told files over reason is breaks)
 
-    works_there : (answer : Answer V) → EndsAs answer → (place : Course V) → IsToWork told files What place → May told (EndsHere before after answer) place → IsCarriedOut V What files call
+    works_there : (answer : Answer V) → EndsAs answer → (place : Course V) → IsToWork told files What place
+        → May told (EndsHere before after answer) place → IsCarriedOut V What files call
     works_there answer ends (works over work) (is, what) here = working_ends over work answer is what ends here
     works_there answer ends (refuses reason) is here = absurd is
     works_there answer ends (reads file name next) is here = absurd is
@@ -139,7 +145,8 @@ module _ (V : Vocabulary) (files : Files V) (call : SeenCall V.Word) where
         course comes is.follows
 
   module _ (Why : V.Reason → Type 0) where
-    refuses_there : (answer : Answer V) → EndsAs answer → (place : Course V) → IsToRefuse Why place → May told (EndsHere before after answer) place → IsRefusedFor V Why call ⊎ IsStopped V files call
+    refuses_there : (answer : Answer V) → EndsAs answer → (place : Course V) → IsToRefuse Why place
+        → May told (EndsHere before after answer) place → IsRefusedFor V Why call ⊎ IsStopped V files call
     refuses_there answer ends (works over work) is here = absurd is
     refuses_there answer ends (refuses reason) is here = refusing_ends (λ other. other ≡ reason) Why answer (λ other same. subst Why (sym same) is) ends here
     refuses_there answer ends (reads file name next) is here = absurd is
@@ -147,7 +154,8 @@ module _ (V : Vocabulary) (files : Files V) (call : SeenCall V.Word) where
     refuses_there answer ends (makes A Good Bad Comes apart sure next) (some, why) (inr (x, good, here)) = absurd (apart x some.0 good some.1)
 
     -- the call of a course that is to refuse for such a reason
-    pub call_refused : (course : Course V) → IsCallOf course call → StandsAt told files (IsToRefuse Why) course → IsRefusedFor V Why call ⊎ IsStopped V files call
+    pub call_refused : (course : Course V) → IsCallOf course call → StandsAt told files (IsToRefuse Why) course
+        → IsRefusedFor V Why call ⊎ IsStopped V files call
     call_refused course is comes =
         stands told files (IsToRefuse Why) (EndsHere before after is.answer) (refuses_there is.answer is.ends)
         (λ file name next one here. inr (reading_stops file name is.answer one is.ends here))
@@ -163,18 +171,21 @@ module _ (V : Vocabulary) (files : Files V) (call : SeenCall V.Word) where
     settled (inl refused) = inr refused
     settled (inr stopped) = inl (stopped_working What stopped)
 
-    settles_there : (answer : Answer V) → EndsAs answer → (place : Course V) → IsToWork told files What place ⊎ IsToRefuse Why place → May told (EndsHere before after answer) place → Settled
+    settles_there : (answer : Answer V) → EndsAs answer → (place : Course V) → IsToWork told files What place ⊎ IsToRefuse Why place
+        → May told (EndsHere before after answer) place → Settled
     settles_there answer ends place (inl is) here = inl (works_there What answer ends place is here)
     settles_there answer ends place (inr is) here = settled (refuses_there Why answer ends place is here)
 
-    pub call_settled : (course : Course V) → IsCallOf course call → StandsAt told files (λ place. IsToWork told files What place ⊎ IsToRefuse Why place) course → Settled
+    pub call_settled : (course : Course V) → IsCallOf course call
+        → StandsAt told files (λ place. IsToWork told files What place ⊎ IsToRefuse Why place) course → Settled
     call_settled course is comes =
         stands told files (λ place. IsToWork told files What place ⊎ IsToRefuse Why place) (EndsHere before after is.answer) (settles_there is.answer is.ends)
         (λ file name next one here. inl (stopped_working What (reading_stops file name is.answer one is.ends here)))
         (λ A Good Bad Comes apart sure next some here. inl (stopped_working What (making_stops Bad is.answer (λ reason. sure reason some) is.ends here)))
         course comes is.follows
 
-  misses_there : (answer : Answer V) → EndsAs answer → (place : Course V) → IsToMiss told files place → May told (EndsHere before after answer) place → IsStopped V files call
+  misses_there : (answer : Answer V) → EndsAs answer → (place : Course V) → IsToMiss told files place
+      → May told (EndsHere before after answer) place → IsStopped V files call
   misses_there answer ends (works over work) is here = absurd is
   misses_there answer ends (refuses reason) is here = absurd is
   misses_there answer ends (reads file name next) (one, gone) (inl here) = reading_stops file name answer one ends here

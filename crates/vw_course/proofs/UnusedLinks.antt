@@ -24,7 +24,8 @@ module _ (V : Vocabulary) (before after : SeenOutside V.Word) where
   abbrev Stay : Type 0
   Stay = after.links ≡ before.links
 
-  done_by : (Allowed : Work V.Word → Type 0) (told : Told) (work did : Work V.Word) → work.scripts ≡ None → ((did : Work V.Word) → Allowed did → did.scripts ≡ None) → IsDoneBy Allowed told work did → did.scripts ≡ None
+  done_by : (Allowed : Work V.Word → Type 0) (told : Told) (work did : Work V.Word) → work.scripts ≡ None
+      → ((did : Work V.Word) → Allowed did → did.scripts ≡ None) → IsDoneBy Allowed told work did → did.scripts ≡ None
   done_by Allowed untold work did own allowed is = allowed did is
   done_by Allowed absent work did own allowed is = ap (λ (w : Work V.Word). w.scripts) is ∙ own
   done_by Allowed (held text) work did own allowed is = ap (λ (w : Work V.Word). w.scripts) is ∙ own

@@ -59,7 +59,8 @@ module _ (cells workers : ℕ) (call : Call) where
   run_to after err status = seen_call inside call.err_before after err status
 
   -- the run over the texts was done with this text, of which the summary is such
-  summary_of : (work : CallWork) → Follows (demo_run workers) inside (with_all work inside) (Ok tt) → (Is : List ℕ → Type 0) → Is (summary cells work.text) → HasSummary cells Is
+  summary_of : (work : CallWork) → Follows (demo_run workers) inside (with_all work inside) (Ok tt) → (Is : List ℕ → Type 0)
+      → Is (summary cells work.text) → HasSummary cells Is
   summary_of work follows Is is =
       let run = run_to (with_all work inside) call.err_before 0 in
       let is_run : IsCallOf (demo_run workers) run = record { answer = Ok tt; follows = follows; ends = (refl, refl) } in
@@ -73,7 +74,8 @@ module _ (cells workers : ℕ) (call : Call) where
       }
 
   -- where the texts are accepted, the run ends with one of these statuses
-  run_ends : (run : Call) → RunStatuses [] (trace_of false) design_name board_name made_here stimulus_name workers false run → ((name : List ℕ) → run.before.shelf.told name ≡ held (generated cells name))
+  run_ends : (run : Call) → RunStatuses [] (trace_of false) design_name board_name made_here stimulus_name workers false run
+      → ((name : List ℕ) → run.before.shelf.told name ≡ held (generated cells name))
       → AreAccepted cells → (run.status ≡ 0) ⊎ ((run.status ≡ 7) ⊎ ((run.status ≡ 8) ⊎ (run.status ≡ 9)))
   run_ends run statuses there all =
       let ready : IsReady [] (trace_of false) design_name board_name made_here stimulus_name workers false run (design_text cells) (stimulus_text cells) = record {
@@ -96,7 +98,8 @@ module _ (cells workers : ℕ) (call : Call) where
       (run_ends run is.statuses is.texts all)
 
   -- 8 comes where a fault was counted at out
-  completes : (call.status ≡ 8 → HasSummary cells (λ text. FailedAfterPart text call.before.out call.after.out)) → (IsOneMore call.before.out.faults call.after.out.faults → ⊥)
+  completes : (call.status ≡ 8 → HasSummary cells (λ text. FailedAfterPart text call.before.out call.after.out))
+      → (IsOneMore call.before.out.faults call.after.out.faults → ⊥)
       → (call.status ≡ 0) ⊎ ((call.status ≡ 8) ⊎ (call.status ≡ 9)) → (call.status ≡ 0) ⊎ (call.status ≡ 9)
   completes failed none (inl zero_is) = inl zero_is
   completes failed none (inr (inl eight)) = absurd (none (fault_counted _ call.before.out call.after.out (failed eight).wrote))
@@ -117,8 +120,10 @@ module _ (cells workers : ℕ) (call : Call) where
   comes_by run has (inr eight) = inr (inr (inl eight.0))
 
   -- the table, from the run and from what is known of its end
-  table_by : (run : Call) → IsRunOfTexts cells workers call run → Ended run → call.status ≢ 7 → (call.status ≡ 0 → WritesSummary cells call) → (call.status ≡ 0 → Links run) → (call.status ≡ 8 → Wrote FailedAfterPart)
-      → (call.status ≡ 9 → (call.after.out ≡ call.before.out) ⊎ Wrote WrotePart) → (0 < call.status → IsNoStop call.status → IsRefusedAs call run) → DemoStatuses cells workers call
+  table_by : (run : Call) → IsRunOfTexts cells workers call run → Ended run → call.status ≢ 7 → (call.status ≡ 0 → WritesSummary cells call)
+      → (call.status ≡ 0 → Links run) → (call.status ≡ 8 → Wrote FailedAfterPart)
+      → (call.status ≡ 9 → (call.after.out ≡ call.before.out) ⊎ Wrote WrotePart)
+      → (0 < call.status → IsNoStop call.status → IsRefusedAs call run) → DemoStatuses cells workers call
   table_by run is status no_read done links failed memory refused = record {
     run = run;
     is = is;
@@ -134,7 +139,8 @@ module _ (cells workers : ℕ) (call : Call) where
     no_read_fault = no_read;
   }
 
-  done_table : Follows (demo_course cells workers) call.before call.after (Ok tt) → Ends vocabulary (Ok tt) call.err_before call.err_after call.status → DemoStatuses cells workers call
+  done_table : Follows (demo_course cells workers) call.before call.after (Ok tt)
+      → Ends vocabulary (Ok tt) call.err_before call.err_after call.status → DemoStatuses cells workers call
   done_table follows (zero_is, silent) =
       let found = done_inside vocabulary (generated cells) (summary cells) (λ name. 0) (seen_bytes [] 0) call.before call.after (demo_run workers) follows in
       let run = run_to (with_all found.0 inside) call.err_after 0 in
@@ -143,7 +149,8 @@ module _ (cells workers : ℕ) (call : Call) where
       (λ status. summary_of found.0 found.1 (λ text. call.after.out ≡ appended call.before.out text) (ap (λ (o : SeenOutside vocabulary.Word). o.out) found.2))
       (λ status. on_links_by run is_run refl refl) (λ status. absurd (omega (arith, status, zero_is))) (λ status. absurd (omega (arith, status, zero_is))) (λ some few. absurd (omega (arith, some, zero_is)))
 
-  refused_table : (reason : vocabulary.Reason) → Follows (demo_course cells workers) call.before call.after (Err (Refused reason)) → Ends vocabulary (Err (Refused reason)) call.err_before call.err_after call.status → DemoStatuses cells workers call
+  refused_table : (reason : vocabulary.Reason) → Follows (demo_course cells workers) call.before call.after (Err (Refused reason))
+      → Ends vocabulary (Err (Refused reason)) call.err_before call.err_after call.status → DemoStatuses cells workers call
   refused_table reason follows ends =
       let found = refused_inside vocabulary (generated cells) (summary cells) (λ name. 0) (seen_bytes [] 0) call.before call.after reason (demo_run workers) follows in
       let run = run_to inside call.err_after call.status in
@@ -153,7 +160,8 @@ module _ (cells workers : ℕ) (call : Call) where
       (λ status. absurd (omega (arith, status, ends.0, vocabulary.few reason))) (λ status. absurd (omega (arith, status, ends.0, vocabulary.few reason)))
       (λ some few. record { leaves = found.1; message = refl; message_before = refl })
 
-  memory_table : Follows (demo_course cells workers) call.before call.after (Err NoMemory) → Ends vocabulary (Err NoMemory) call.err_before call.err_after call.status → DemoStatuses cells workers call
+  memory_table : Follows (demo_course cells workers) call.before call.after (Err NoMemory)
+      → Ends vocabulary (Err NoMemory) call.err_before call.err_after call.status → DemoStatuses cells workers call
   memory_table follows ends =
       let found = memory_inside vocabulary (generated cells) (summary cells) (λ name. 0) (seen_bytes [] 0) call.before call.after (demo_run workers) follows in
       let run = run_to found.0 call.err_after call.status in
@@ -164,7 +172,8 @@ module _ (cells workers : ℕ) (call : Call) where
       (λ status. ⊎_elim (λ same. inl (ap (λ (o : SeenOutside vocabulary.Word). o.out) same)) (λ some. inr (summary_of some.0 some.1 (λ text. WrotePart text call.before.out call.after.out) some.2.0)) part)
       (λ some few. absurd (omega (arith, few, ends.0)))
 
-  write_table : Follows (demo_course cells workers) call.before call.after (Err WriteFault) → Ends vocabulary (Err WriteFault) call.err_before call.err_after call.status → DemoStatuses cells workers call
+  write_table : Follows (demo_course cells workers) call.before call.after (Err WriteFault)
+      → Ends vocabulary (Err WriteFault) call.err_before call.err_after call.status → DemoStatuses cells workers call
   write_table follows ends =
       let found = write_inside vocabulary (generated cells) (summary cells) (λ name. 0) (seen_bytes [] 0) call.before call.after (demo_run workers) follows in
       let run = run_to found.0 (appended call.err_before memory_line) 9 in
@@ -174,7 +183,8 @@ module _ (cells workers : ℕ) (call : Call) where
       (λ status. absurd (omega (arith, status, ends.0))) (λ status. absurd (omega (arith, status, ends.0)))
       (λ status. summary_of some.0 some.1 (λ text. FailedAfterPart text call.before.out call.after.out) some.2.0) (λ status. absurd (omega (arith, status, ends.0))) (λ some few. absurd (omega (arith, few, ends.0)))
 
-  by_answer : (answer : Answer vocabulary) → Follows (demo_course cells workers) call.before call.after answer → Ends vocabulary answer call.err_before call.err_after call.status → DemoStatuses cells workers call
+  by_answer : (answer : Answer vocabulary) → Follows (demo_course cells workers) call.before call.after answer
+      → Ends vocabulary answer call.err_before call.err_after call.status → DemoStatuses cells workers call
   by_answer (Ok done) follows ends = done_table follows ends
   by_answer (Err (Refused reason)) follows ends = refused_table reason follows ends
   by_answer (Err NoMemory) follows ends = memory_table follows ends

@@ -6,7 +6,7 @@ use Rattle.vw_course.specs.Endings.{IsCallOf}
 use Rattle.vw_course.specs.Places.{IsOneOf, Files}
 use Rattle.vw_course.specs.Statuses.{FileStatuses}
 use Rattle.vw_course.proofs.EveryPlace.{IsNoneOf, KeepsTo, keeps_more, keeps_stage, no_refusal, no_break}
-use Rattle.vw_course.proofs.Fronts.{no_front, file_table}
+use Rattle.vw_course.proofs.Openings.{no_opening, file_table}
 use Rattle.vw_front.specs.declared.fault.NetlistFault.{NetlistFault}
 use Rattle.vw_front.specs.Designs.{IsNoDesign, RefusesDesign}
 use Rattle.vw_courses.specs.declared.vocabulary.File.TheVariants as kinds
@@ -28,7 +28,7 @@ module _ (probes : List Word) {Thing : Type 0} (Spells : List ℕ → Thing → 
   pub design_table : IsNoneOf own 1 → IsNoneOf broken 1 → IsCallOf course call
       → FileStatuses vocabulary ((kinds.Design, design) ∷ []) design [] 1 (IsBadDesign probes) (IsNoDesign probes) (λ one. Unit {0}) call
   design_table none whole is =
-      file_table call ((kinds.Design, design) ∷ []) [] (λ next. next tt) _ _ _ _ (no_front call.before.shelf.told ((kinds.Design, design) ∷ [])) (given_kind probes Spells apart) design (λ x. next) (inl refl) is (lit< tt) (inl (lit< tt)) tt
+      file_table call ((kinds.Design, design) ∷ []) [] (λ next. next tt) _ _ _ _ (no_opening call.before.shelf.told ((kinds.Design, design) ∷ [])) (given_kind probes Spells apart) design (λ x. next) (inl refl) is (lit< tt) (inl (lit< tt)) tt
       (λ x its reason same. no_refusal call.before.shelf.told files anew own broken (next its) (keeps its) 1 none reason same)
       (no_break call.before.shelf.told files anew (1 ∷ own) broken course keeps_design 1 whole)
       (IsNoDesign probes) (λ d no. (reasons.Design no.0, (no.0, refl, no.1))) (λ one. Unit {0}) (λ next_is. (tt, tt, tt))

@@ -6,7 +6,7 @@ use Rattle.vw_course.specs.Follows.{May}
 use Rattle.vw_course.specs.Endings.{IsCallOf}
 use Rattle.vw_course.specs.Places.{IsOneOf, Files, RefusesHere, StandsAt, IsToWork, IsToRefuse}
 use Rattle.vw_course.proofs.EveryPlace.{IsNoneOf, no_break}
-use Rattle.vw_course.proofs.Fronts.{IsFront}
+use Rattle.vw_course.proofs.Openings.{IsOpening}
 use Rattle.vw_course.proofs.StandLaws.{call_refused, call_settled}
 use Rattle.vw_course.proofs.StageLaws.{refusal_behind, refused_for}
 use Rattle.vw_net.specs.declared.ordered.Ordered.{Ordered}
@@ -26,8 +26,8 @@ use Rattle.vw_statuses.specs.EmittedBoards.{board_design, BoardsShow, DesignFits
 use Rattle.vw_statuses.specs.EmitStatuses.{IsTooLarge, EmitStatuses}
 use Rattle.vw_statuses.specs.WrittenStatuses.{IsWritten}
 use Rattle.vw_statuses.proofs.EmittedBoards.{writes_board}
-use Rattle.vw_statuses.proofs.PlannedLaws.{Has, Spelled, front, none_planned, apart_from}
-use Rattle.vw_statuses.proofs.WrittenLaws.{IsWriter, written_front, keeps, written_table}
+use Rattle.vw_statuses.proofs.PlannedLaws.{Has, Spelled, opening, none_planned, apart_from}
+use Rattle.vw_statuses.proofs.WrittenLaws.{IsWriter, written_opening, keeps, written_table}
 
 -- behind its plan it writes the design, or refuses with 10 alone
 writer : IsWriter board_design DesignFits (10 ∷ []) emit_rest
@@ -51,19 +51,21 @@ module _ (design board : List ℕ) (by : PlanBy) (call : Call) where
   apart : (number : ℕ) → IsOneOf (plan_statuses by) number → IsNoneOf (10 ∷ []) number
   apart number one = (apart_from by 10 (λ is. omega (arith, is)) (λ is. omega (arith, is)) (λ is. omega (arith, is)) (λ is. omega (arith, is)) number one, tt)
 
-  its_front : IsFront told all (plan_statuses by) (front [] design board by call) (Has [] design board by call) (HoldTexts [] design board by call) (HavePlan [] by) (Spelled [] design board by call)
-  its_front = written_front [] design board by board_design DesignFits (10 ∷ []) emit_rest writer apart call
+  its_opening : IsOpening told all (plan_statuses by) (opening [] design board by call) (Has [] design board by call) (HoldTexts [] design board by call) (HavePlan [] by) (Spelled [] design board by call)
+  its_opening = written_opening [] design board by board_design DesignFits (10 ∷ []) emit_rest writer apart call
 
-  too_large_why : (texts : PlanTexts) → HoldTexts [] design board by call texts → (reason : Reason) → reason_status reason ≡ 10 → May told (RefusesHere reason) course → IsTooLarge by texts reason
+  too_large_why : (texts : PlanTexts) → HoldTexts [] design board by call texts → (reason : Reason) → reason_status reason ≡ 10
+      → May told (RefusesHere reason) course → IsTooLarge by texts reason
   too_large_why texts hold reason same may =
-      let later = its_front.behind 10 (RefusesHere reason) (refusal_behind told 10 reason same) (none_planned by 10 (λ is. omega (arith, is)) (λ is. omega (arith, is)) (λ is. omega (arith, is)) (λ is. omega (arith, is))) (λ x. emit_rest x.0 x.1 x.2) may in
+      let later = its_opening.behind 10 (RefusesHere reason) (refusal_behind told 10 reason same) (none_planned by 10 (λ is. omega (arith, is)) (λ is. omega (arith, is)) (λ is. omega (arith, is)) (λ is. omega (arith, is))) (λ x. emit_rest x.0 x.1 x.2) may in
       ⊎_elim
-      (λ (bad : IsBadEmission (planned_board later.0.0 later.0.1 later.0.2) reason). record { ordered = later.0.0; board = later.0.1; plan = later.0.2; are = its_front.spelled texts hold later.0 later.1; bad = bad })
+      (λ (bad : IsBadEmission (planned_board later.0.0 later.0.1 later.0.2) reason). record { ordered = later.0.0; board = later.0.1; plan = later.0.2; are = its_opening.spelled texts hold later.0 later.1; bad = bad })
       (λ (more : Unit {0} × FitsDesigns (planned_board later.0.0 later.0.1 later.0.2) × ⊥). absurd more.2)
       later.2
 
   -- a planned board that fits is written, and another is refused
-  settles : (texts : PlanTexts) (ordered : Ordered) (on : Board) (plan : Plan) → AreSpelled [] by texts ordered on plan → FitsDesigns (planned_board ordered on plan) ⊎ HasEmitFault (planned_board ordered on plan)
+  settles : (texts : PlanTexts) (ordered : Ordered) (on : Board) (plan : Plan) → AreSpelled [] by texts ordered on plan
+      → FitsDesigns (planned_board ordered on plan) ⊎ HasEmitFault (planned_board ordered on plan)
       → StandsAt told all (λ place. IsToWork told all (IsWritten [] by board_design DesignFits texts) place ⊎ IsToRefuse (IsTooLarge by texts) place) (emit_rest ordered on plan)
   settles texts ordered on plan are (inl fits) =
       inr ((tt, fits), λ done so. inl (tt, record { ordered = ordered; its_board = on; plan = plan; are = are; fits = fits; is = refl }))
@@ -80,11 +82,11 @@ module _ (design board : List ℕ) (by : PlanBy) (call : Call) where
             (no_break told all [] (plan_statuses by ++ 10 ∷ []) [] course (keeps [] design board by board_design DesignFits (10 ∷ []) emit_rest writer apart call) 10 tt) (lit< tt) (inr (lit< tt, lit< tt));
         too_large_comes = λ texts hold have large.
             call_refused vocabulary all call (IsTooLarge by texts) course is
-            (its_front.comes (IsToRefuse (IsTooLarge by texts)) texts hold have (λ x. emit_rest x.0 x.1 x.2)
+            (its_opening.comes (IsToRefuse (IsTooLarge by texts)) texts hold have (λ x. emit_rest x.0 x.1 x.2)
             (λ x are. inl (large x.0 x.1 x.2 are, λ reason bad. record { ordered = x.0; board = x.1; plan = x.2; are = are; bad = bad })));
         settled = λ texts hold have.
             let What : CallWork → Type 0 = IsWritten [] by board_design DesignFits texts in
             call_settled vocabulary all call What (IsTooLarge by texts) course is
-            (its_front.comes (λ place. IsToWork told all What place ⊎ IsToRefuse (IsTooLarge by texts) place) texts hold have (λ x. emit_rest x.0 x.1 x.2)
+            (its_opening.comes (λ place. IsToWork told all What place ⊎ IsToRefuse (IsTooLarge by texts) place) texts hold have (λ x. emit_rest x.0 x.1 x.2)
             (λ x are. settles texts x.0 x.1 x.2 are (fits_or_not (planned_board x.0 x.1 x.2))));
       }

@@ -25,7 +25,8 @@ TextsShow = (planned : PlannedBoard) (design : Design) → IsSound planned → F
     → IsBoardOfDesign planned.plan.period design (emitted_text planned)
 
 -- a good plan is sound, and so are one that is given, and one for given chips
-sound_of : (by : PlanBy) (p : List ℕ) (ordered : Ordered) (board : Board) (plan : Plan) → IsPlanOf by p ordered board plan → IsSound (planned_board ordered board plan)
+sound_of : (by : PlanBy) (p : List ℕ) (ordered : Ordered) (board : Board) (plan : Plan) → IsPlanOf by p ordered board plan
+    → IsSound (planned_board ordered board plan)
 sound_of made_here p ordered board plan good = good.sound
 sound_of (of_file name) p ordered board plan is = is.1
 sound_of (for_chips name) p ordered board plan is = is.2.sound
@@ -35,7 +36,8 @@ boards_show show by texts of ordered board plan is are fits =
     show (planned_board ordered board plan) of (sound_of by texts.plan ordered board plan are.plan_is) fits
     (design_of_netlist [] texts.design (record { design = of; nets = [] }) ordered (record { design_of = is; found = tt }) are.on.netlist)
 
-pub writes_board : BoardsShow → (by : PlanBy) (texts : PlanTexts) (call : Call) → IsDone (IsWritten [] by board_design DesignFits texts) call → WritesBoard by texts call.before.out call.after.out
+pub writes_board : BoardsShow → (by : PlanBy) (texts : PlanTexts) (call : Call)
+    → IsDone (IsWritten [] by board_design DesignFits texts) call → WritesBoard by texts call.before.out call.after.out
 writes_board show by texts call done =
     let its = done.is in
     let of : Design = its.are.on.netlist.watched.design in

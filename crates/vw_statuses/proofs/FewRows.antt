@@ -14,19 +14,24 @@ IsFew count (Ok rows) = count + length rows ≤ MOST_CLOCKS
 IsFew count (Err fault) = Unit {0}
 
 -- what was added before counts
-few_behind : (count : ℕ) (added : List (List Bool)) (more : Result (List (List Bool)) StimFault) → IsFew (count + length added) more → IsFew count (behind added more)
+few_behind : (count : ℕ) (added : List (List Bool)) (more : Result (List (List Bool)) StimFault) → IsFew (count + length added) more
+    → IsFew count (behind added more)
 few_behind count added (Ok rows) few = omega (arith, few, length-append added rows)
 few_behind count added (Err fault) few = tt
 
 -- what a line adds, and then the lines behind it
-few_added : (count : ℕ) (rest : List (List Bool) → Result (List (List Bool)) StimFault) → ((added : List (List Bool)) → count + length added ≤ MOST_CLOCKS → IsFew (count + length added) (rest added)) → (added : Result (List (List Bool)) StimFault) → IsFew count (and_then (within_run count added) (λ added. behind added (rest added)))
+few_added : (count : ℕ) (rest : List (List Bool) → Result (List (List Bool)) StimFault)
+    → ((added : List (List Bool)) → count + length added ≤ MOST_CLOCKS → IsFew (count + length added) (rest added))
+    → (added : Result (List (List Bool)) StimFault) → IsFew count (and_then (within_run count added) (λ added. behind added (rest added)))
 few_added count rest few (Err fault) = tt
 few_added count rest few (Ok added) = within (nat_lt MOST_CLOCKS (count + length added)) refl where
-  within : (over : Bool) → nat_lt MOST_CLOCKS (count + length added) ≡ over → IsFew count (and_then (if over then Err (TooManyClocks (count + length added)) else Ok added) (λ added. behind added (rest added)))
+  within : (over : Bool) → nat_lt MOST_CLOCKS (count + length added) ≡ over
+      → IsFew count (and_then (if over then Err (TooManyClocks (count + length added)) else Ok added) (λ added. behind added (rest added)))
   within true is = tt
   within false is = few_behind count added (rest added) (few added (ltb-false MOST_CLOCKS (count + length added) is))
 
-few_lines : (width number count : ℕ) (before : List Bool) (lines : List (List ℕ)) → count ≤ MOST_CLOCKS → IsFew count (rows_of_lines width number count before lines)
+few_lines : (width number count : ℕ) (before : List Bool) (lines : List (List ℕ)) → count ≤ MOST_CLOCKS
+    → IsFew count (rows_of_lines width number count before lines)
 few_lines width number count before [] few = omega (arith, few)
 few_lines width number count before (line ∷ lines) few = few_added count
     (λ added. rows_of_lines width (number + 1) (count + length added) (last_row before added) lines)

@@ -15,7 +15,8 @@ use Rattle.vw_statuses.specs.TracedStatuses.{designs, IsTrace}
 use Rattle.vw_statuses.specs.Headline.{Headline, WritesOver, WritesTrace}
 use Rattle.vw_statuses.proofs.RunLaws.{run_traced}
 
-pub writes_over : (probes : List Word) (text : TextOver WatchedDesign) (design : List ℕ) (d s : List ℕ) (Uses : Scripts → Type 0) (call : Call) → IsDone (IsTrace (designs probes design) text d s Uses) call
+pub writes_over : (probes : List Word) (text : TextOver WatchedDesign) (design : List ℕ) (d s : List ℕ) (Uses : Scripts → Type 0) (call : Call)
+    → IsDone (IsTrace (designs probes design) text d s Uses) call
     → WritesOver probes text d s call.before.out call.after.out
 writes_over probes text design d s Uses call done = record {
   spelled = done.is.its;
@@ -33,6 +34,7 @@ module _ (probes : List Word) (design board : List ℕ) (by : PlanBy) (stimulus 
       writes_over probes (trace_of unknown) design d s _ call (traced.ends.done (d, s) (record { its_held = design_held; stimulus_held = stimulus_held }) status)
 
 -- so a call has it whose words spell a run
-pub headline_of : (words : List (List ℕ)) (call : Call) → IsCallOf (course_of (spelled_by words)) call → Headline words call.before.shelf.told call.before.out call.after.out call.status
+pub headline_of : (words : List (List ℕ)) (call : Call) → IsCallOf (course_of (spelled_by words)) call
+    → Headline words call.before.shelf.told call.before.out call.after.out call.status
 headline_of words call is design board stimulus given workers unknown probes spelled d s =
     headline probes design board (by_file given) stimulus workers unknown call (subst (λ (one : Spelled). IsCallOf (course_of one) call) spelled is) d s

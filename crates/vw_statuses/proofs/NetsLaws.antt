@@ -13,7 +13,7 @@ use Rattle.vw_course.specs.Endings.{IsCallOf}
 use Rattle.vw_course.specs.Places.{Files, IsToWork}
 use Rattle.vw_course.specs.Statuses.{NoWork, Holds}
 use Rattle.vw_course.proofs.EveryPlace.{KeepsTo, again_one, comes}
-use Rattle.vw_course.proofs.Fronts.{end_table}
+use Rattle.vw_course.proofs.Openings.{end_table}
 use Rattle.vw_course.proofs.StageLaws.{past, work_past}
 use Rattle.vw_course.proofs.CarriedOut.{text_part}
 use Rattle.vw_front.specs.declared.named.NamedNetlist.{NamedNetlist}
@@ -28,7 +28,8 @@ use Rattle.vw_statuses.proofs.DesignLaws.{keeps_design, design_table}
 use Rattle.vw_statuses.proofs.OnBoards.{watched_once, netlist_same}
 
 -- each output of a netlist has a name: the outputs of the root, and behind them the probes
-pub outputs_named : (probes : List Word) (d : List ℕ) (named : NamedNetlist) → IsNamedNetlistOf probes d named → length named.outputs + length probes ≡ length named.ordered.flat.outputs
+pub outputs_named : (probes : List Word) (d : List ℕ) (named : NamedNetlist) → IsNamedNetlistOf probes d named
+    → length named.outputs + length probes ≡ length named.ordered.flat.outputs
 outputs_named probes d named is =
     let design = is.watched.design in
     let nets = is.watched.nets in
@@ -41,7 +42,8 @@ outputs_named probes d named is =
     omega (arith, shown, both, found, root)
 
 -- a text has one netlist with names, but for the order of its gates, which isn't written
-pub text_once : (probes : List Word) (d : List ℕ) (one other : NamedNetlist) → IsNamedNetlistOf probes d one → IsNamedNetlistOf probes d other → nets_text probes one ≡ nets_text probes other
+pub text_once : (probes : List Word) (d : List ℕ) (one other : NamedNetlist) → IsNamedNetlistOf probes d one
+    → IsNamedNetlistOf probes d other → nets_text probes one ≡ nets_text probes other
 text_once probes d one other is its =
     let same : is.watched ≡ its.watched = watched_once probes d is.watched its.watched is.is its.is in
     let nets : one.nets ≡ other.nets = is.nets ∙ ap (λ (watched : WatchedDesign). net_names watched.design) same ∙ sym its.nets in

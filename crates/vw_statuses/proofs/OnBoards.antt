@@ -15,14 +15,16 @@ use Rattle.vw_courses.specs.Kinds.{ChipsHaveRoom}
 use Rattle.vw_courses.specs.OnBoards.{AreSpelledOn}
 
 -- a text has one design with the nets that probes find
-pub watched_once : (probes : List Word) (d : List ℕ) (one other : WatchedDesign) → IsWatchedDesignOf probes d one → IsWatchedDesignOf probes d other → one ≡ other
+pub watched_once : (probes : List Word) (d : List ℕ) (one other : WatchedDesign) → IsWatchedDesignOf probes d one
+    → IsWatchedDesignOf probes d other → one ≡ other
 watched_once probes d one other is its =
     let same : one.design ≡ other.design = spells_once d one.design other.design is.design_of.spelled its.design_of.spelled in
     let found : FindAll other.design probes one.nets = subst (λ (design : Design). FindAll design probes one.nets) same is.found in
     ap₂ (λ (design : Design) (nets : List Net). record { design = design; nets = nets }) same (all_once other.design its.design_of.accepted probes one.nets other.nets found its.found)
 
 -- each netlist of it is one of the design
-pub design_of_netlist : (probes : List Word) (d : List ℕ) (watched : WatchedDesign) (ordered : Ordered) → IsWatchedDesignOf probes d watched → IsNetlistOf probes d ordered
+pub design_of_netlist : (probes : List Word) (d : List ℕ) (watched : WatchedDesign) (ordered : Ordered) → IsWatchedDesignOf probes d watched
+    → IsNetlistOf probes d ordered
     → IsFlatOf watched.design watched.nets ordered.flat
 design_of_netlist probes d watched ordered is netlist =
     subst (λ (one : WatchedDesign). IsFlatOf one.design one.nets ordered.flat) (watched_once probes d netlist.watched watched netlist.is is) netlist.flat

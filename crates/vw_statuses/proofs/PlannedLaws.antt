@@ -13,7 +13,7 @@ use Rattle.vw_course.specs.Statuses.{IsRefusedFor, MayDo}
 use Rattle.vw_course.proofs.Inductions.{its_text}
 use Rattle.vw_course.proofs.StandLaws.{call_refused}
 use Rattle.vw_course.proofs.EveryPlace.{AreAmong, among_front, IsNoneOf, none_one, KeepsTo, keeps_stage, keeps_judged, keeps_made, keeps_more, no_refusal, no_break}
-use Rattle.vw_course.proofs.Fronts.{IsFront, MayHave, file_front, both_fronts, front_as, file_table}
+use Rattle.vw_course.proofs.Openings.{IsOpening, MayHave, file_opening, both_openings, opening_as, file_table}
 use Rattle.vw_course.proofs.StageLaws.{past, past_judged, past_made, at_bad, refused_past, stage_behind, judged_behind, made_behind, works_behind, refusal_behind, refused_for}
 use Rattle.vw_course.proofs.BarredLaws.{barred_here, barred_later, call_barred}
 use Rattle.vw_front.specs.Designs.{IsNetlistOf, netlist_apart}
@@ -55,11 +55,13 @@ module _ (probes : List Word) (d b p : List ℕ) (ordered other : Ordered) (boar
   boards : board ≡ its_board
   boards = accepted_once b board its_board on.board_is its_on.board_is
 
-  fault_of_texts : (plan its_plan : Plan) → SpellsPlan p plan → SpellsPlan p its_plan → plan_fault (planned_board ordered board plan) ≡ plan_fault (planned_board other its_board its_plan)
+  fault_of_texts : (plan its_plan : Plan) → SpellsPlan p plan → SpellsPlan p its_plan
+      → plan_fault (planned_board ordered board plan) ≡ plan_fault (planned_board other its_board its_plan)
   fault_of_texts plan its_plan is its_is =
       fault_same board plan ordered other flats ∙ ap₂ (λ (one : Board) (two : Plan). plan_fault (planned_board other one two)) boards (spelled_once p plan its_plan is its_is)
 
-  sound_of_texts : (plan its_plan : Plan) → SpellsPlan p plan → SpellsPlan p its_plan → IsSound (planned_board ordered board plan) → IsSound (planned_board other its_board its_plan)
+  sound_of_texts : (plan its_plan : Plan) → SpellsPlan p plan → SpellsPlan p its_plan → IsSound (planned_board ordered board plan)
+      → IsSound (planned_board other its_board its_plan)
   sound_of_texts plan its_plan is its_is all =
       sound (planned_board other its_board its_plan) (sym (fault_of_texts plan its_plan is its_is) ∙ faultless (planned_board ordered board plan) all)
 
@@ -87,7 +89,8 @@ given_among made_here one two others = tt
 given_among (of_file name) one two others = inr (inr (inl refl))
 given_among (for_chips name) one two others = inr (inr (inl refl))
 
-pub other_among : (by : PlanBy) (one two its : vocabulary.File × List ℕ) (others : Files vocabulary) → IsOneOf others its → IsOneOf (one ∷ (two ∷ with_given by others)) its
+pub other_among : (by : PlanBy) (one two its : vocabulary.File × List ℕ) (others : Files vocabulary) → IsOneOf others its
+    → IsOneOf (one ∷ (two ∷ with_given by others)) its
 other_among made_here one two its others is = inr (inr is)
 other_among (of_file name) one two its others is = inr (inr (inr is))
 other_among (for_chips name) one two its others is = inr (inr (inr is))
@@ -123,7 +126,8 @@ module _ (call : Call) where
   told = call.before.shelf.told
 
   -- the texts that a name may have are the one that is held
-  pub held_plan : (by : PlanBy) (p : List ℕ) → HoldsGiven call by p → (ordered : Ordered) (board : Board) (plan : Plan) → IsPlanBy told by ordered board plan → IsPlanOf by p ordered board plan
+  pub held_plan : (by : PlanBy) (p : List ℕ) → HoldsGiven call by p → (ordered : Ordered) (board : Board) (plan : Plan)
+      → IsPlanBy told by ordered board plan → IsPlanOf by p ordered board plan
   held_plan made_here p holds ordered board plan is = is
   held_plan (of_file name) p holds ordered board plan is =
       (subst (λ (t : List ℕ). SpellsPlan t plan) (its_text (told name) is.0 p holds is.1) is.2, is.3)
@@ -131,16 +135,16 @@ module _ (call : Call) where
       (is.2, subst (λ (t : List ℕ). SpellsChips t is.2) (its_text (told name) is.0 p holds is.1) is.3, is.4)
 
   module _ (files : Files vocabulary) (ordered : Ordered) (board : Board) where
-    plan_front : (by : PlanBy) → IsAmong files by
-        → IsFront told files (plan_status by ∷ []) {A = Plan} {T = List ℕ} (plan_then by ordered board) (IsPlanBy told by ordered board) (HoldsGiven call by) (PlanComes by ordered board) (λ p. IsPlanOf by p ordered board)
-    plan_front made_here at = record {
+    plan_opening : (by : PlanBy) → IsAmong files by
+        → IsOpening told files (plan_status by ∷ []) {A = Plan} {T = List ℕ} (plan_then by ordered board) (IsPlanBy told by ordered board) (HoldsGiven call by) (PlanComes by ordered board) (λ p. IsPlanOf by p ordered board)
+    plan_opening made_here at = record {
       keeps = λ anew more broken all next later. keeps_made files anew more broken (planning ordered board) next (all 6 (inl refl)) later;
       behind = λ number P passes none next may. made_behind told number P passes (planning ordered board) next (λ is. none.0 (sym is)) may;
       spelled = λ p holds plan is. is;
       comes = λ P p holds room next there. past_made told files P (planning ordered board) next room there;
       barred = λ all among next later. (λ reason bad. subst (IsOneOf all) (sym (ap reason_status bad.0)) (among 6 (inl refl)), λ plan good. later plan);
     }
-    plan_front (of_file name) at = record {
+    plan_opening (of_file name) at = record {
       keeps = λ anew more broken all next later. keeps_stage files anew more broken plan_kind name (sound_then ordered board next) at (all 4 (inl refl))
           (λ its. keeps_judged files anew more broken (soundness (planned_board ordered board its)) (λ done. next its) (all 4 (inl refl)) (λ done. later its));
       behind = λ number P passes none next may.
@@ -154,7 +158,7 @@ module _ (call : Call) where
       barred = λ all among next later. barred_later told all plan_kind name (sound_then ordered board next) (among 4 (inl refl))
           (λ its. (λ reason bad. subst (IsOneOf all) (sym (ap reason_status bad.1)) (among 4 (inl refl)), λ done is_sound. later its));
     }
-    plan_front (for_chips name) at = record {
+    plan_opening (for_chips name) at = record {
       keeps = λ anew more broken all next later. keeps_stage files anew more broken chips_kind name (placed_then ordered board next) at (all 4 (inl refl))
           (λ list. keeps_made files anew more broken (planning_for ordered board list) next (all 4 (inl refl)) later);
       behind = λ number P passes none next may.
@@ -171,7 +175,8 @@ module _ (call : Call) where
 
   -- a refusal with the plan's status is for the plan, where the rest has none with it
   module _ (p : List ℕ) (reason : Reason) (ordered : Ordered) (board : Board) (next : Plan → Course vocabulary) (none : (plan : Plan) → May told (RefusesHere reason) (next plan) → ⊥) where
-    plan_refused : (by : PlanBy) → HoldsGiven call by p → May told (RefusesHere reason) (plan_then by ordered board next) → IsPlanReason by p ordered board reason
+    plan_refused : (by : PlanBy) → HoldsGiven call by p → May told (RefusesHere reason) (plan_then by ordered board next)
+        → IsPlanReason by p ordered board reason
     plan_refused made_here holds (inl bad) = bad
     plan_refused made_here holds (inr (plan, good, later)) = absurd (none plan later)
     plan_refused (of_file name) holds may =
@@ -203,8 +208,8 @@ module _ (probes : List Word) (design board : List ℕ) (by : PlanBy) (call : Ca
   abbrev pub Spelled : PlanTexts → Planned → Type 0
   Spelled texts its = AreSpelled probes by texts its.0 its.1 its.2
 
-  abbrev pub front : (Planned → Course vocabulary) → Course vocabulary
-  front next = ready_course probes design board by (λ ordered on plan. next (ordered, on, plan))
+  abbrev pub opening : (Planned → Course vocabulary) → Course vocabulary
+  opening next = ready_course probes design board by (λ ordered on plan. next (ordered, on, plan))
 
   -- what the names may have, held texts spell
   held_spelled : (texts : PlanTexts) → HoldTexts probes design board by call texts → (its : Planned) → Has its → Spelled texts its
@@ -215,7 +220,8 @@ module _ (probes : List Word) (design board : List ℕ) (by : PlanBy) (call : Ca
   }
 
   -- a plan that comes for one netlist and board of the texts comes for each
-  plan_on : (one : PlanBy) (texts : PlanTexts) → HavePlan probes one texts → On probes texts (λ ordered on. (other : Ordered) (its : Board) → AreSpelledOn probes texts.design texts.board other its → PlanComes one other its texts.plan)
+  plan_on : (one : PlanBy) (texts : PlanTexts) → HavePlan probes one texts
+      → On probes texts (λ ordered on. (other : Ordered) (its : Board) → AreSpelledOn probes texts.design texts.board other its → PlanComes one other its texts.plan)
   plan_on made_here texts have = record {
     ordered = have.ordered;
     board = have.board;
@@ -244,18 +250,18 @@ module _ (probes : List Word) (design board : List ℕ) (by : PlanBy) (call : Ca
   }
 
   module _ (files : Files vocabulary) (at_design : IsOneOf files (kinds.Design, design)) (at_board : IsOneOf files (kinds.Board, board)) (at_plan : IsAmong files by) where
-    board_front : (ordered : Ordered) → IsFront before files (3 ∷ plan_status by ∷ []) {A = Board × Plan} {T = List ℕ × List ℕ} (λ next. on_board_course board by (λ own on plan. next (on, plan)) ordered)
+    board_opening : (ordered : Ordered) → IsOpening before files (3 ∷ plan_status by ∷ []) {A = Board × Plan} {T = List ℕ × List ℕ} (λ next. on_board_course board by (λ own on plan. next (on, plan)) ordered)
         (λ x. MayHave before board_kind board x.0 × IsPlanBy before by ordered x.0 x.1) (λ t. (before board ≡ held t.0) × HoldsGiven call by t.1)
         (λ t. ((on : Board) × SpellsBoard t.0 on) × ((on : Board) → SpellsBoard t.0 on → PlanComes by ordered on t.1)) (λ t x. SpellsBoard t.0 x.0 × IsPlanOf by t.1 ordered x.0 x.1)
-    board_front ordered =
-        both_fronts before files (3 ∷ []) (plan_status by ∷ []) (stage board_kind board) _ _ _ _ (file_front before files board_kind board at_board)
-        (plan_then by ordered) _ _ _ _ (λ on. plan_front call files ordered on by at_plan)
+    board_opening ordered =
+        both_openings before files (3 ∷ []) (plan_status by ∷ []) (stage board_kind board) _ _ _ _ (file_opening before files board_kind board at_board)
+        (plan_then by ordered) _ _ _ _ (λ on. plan_opening call files ordered on by at_plan)
 
     -- all three
-    pub ready_front : IsFront before files (plan_statuses by) front Has (HoldTexts probes design board by call) (HavePlan probes by) Spelled
-    ready_front = front_as before files (plan_statuses by) (λ next. stage (netlist_kind probes) design (λ ordered. on_board_course board by (λ own on plan. next (ordered, (on, plan))) ordered)) _ _ _ _
-        (both_fronts before files (1 ∷ []) (3 ∷ plan_status by ∷ []) (stage (netlist_kind probes) design) _ _ _ _ (file_front before files (netlist_kind probes) design at_design)
-        (λ ordered next. on_board_course board by (λ own on plan. next (on, plan)) ordered) _ _ _ _ board_front)
+    pub ready_opening : IsOpening before files (plan_statuses by) opening Has (HoldTexts probes design board by call) (HavePlan probes by) Spelled
+    ready_opening = opening_as before files (plan_statuses by) (λ next. stage (netlist_kind probes) design (λ ordered. on_board_course board by (λ own on plan. next (ordered, (on, plan))) ordered)) _ _ _ _
+        (both_openings before files (1 ∷ []) (3 ∷ plan_status by ∷ []) (stage (netlist_kind probes) design) _ _ _ _ (file_opening before files (netlist_kind probes) design at_design)
+        (λ ordered next. on_board_course board by (λ own on plan. next (on, plan)) ordered) _ _ _ _ board_opening)
         (λ (x : Ordered × (Board × Plan)). (x.0, x.1.0, x.1.1)) (λ (texts : PlanTexts). (texts.design, (texts.board, texts.plan))) Has (HoldTexts probes design board by call) (HavePlan probes by) Spelled
         (λ its has. record { d = has.0.0; design_of = has.0.1; b = has.1.0.0; board_of = has.1.0.1; on = record { netlist = has.0.2; board_is = has.1.0.2 }; plan_is = has.1.1 })
         (λ texts hold. (hold.design_held, (hold.board_held, hold.plan_held)))
@@ -265,16 +271,17 @@ module _ (probes : List Word) (design board : List ℕ) (by : PlanBy) (call : Ca
         held_spelled
 
     -- the design and the board alone
-    two_front : IsFront before files (1 ∷ 3 ∷ []) {A = Ordered × Board} {T = List ℕ × List ℕ} (λ next. stage (netlist_kind probes) design (λ ordered. stage board_kind board (λ on. next (ordered, on))))
+    two_openings : IsOpening before files (1 ∷ 3 ∷ []) {A = Ordered × Board} {T = List ℕ × List ℕ} (λ next. stage (netlist_kind probes) design (λ ordered. stage board_kind board (λ on. next (ordered, on))))
         (λ x. MayHave before (netlist_kind probes) design x.0 × MayHave before board_kind board x.1) (λ t. (before design ≡ held t.0) × (before board ≡ held t.1))
         (λ t. ((ordered : Ordered) × IsNetlistOf probes t.0 ordered) × ((ordered : Ordered) → IsNetlistOf probes t.0 ordered → (on : Board) × SpellsBoard t.1 on)) (λ t x. IsNetlistOf probes t.0 x.0 × SpellsBoard t.1 x.1)
-    two_front = both_fronts before files (1 ∷ []) (3 ∷ []) (stage (netlist_kind probes) design) _ _ _ _ (file_front before files (netlist_kind probes) design at_design)
-        (λ ordered. stage board_kind board) _ _ _ _ (λ ordered. file_front before files board_kind board at_board)
+    two_openings = both_openings before files (1 ∷ []) (3 ∷ []) (stage (netlist_kind probes) design) _ _ _ _ (file_opening before files (netlist_kind probes) design at_design)
+        (λ ordered. stage board_kind board) _ _ _ _ (λ ordered. file_opening before files board_kind board at_board)
 
 -- ---- what comes behind it
 
 -- each number up to the plan's is another one
-pub apart_from : (by : PlanBy) (number : ℕ) → number ≢ 1 → number ≢ 3 → number ≢ 4 → number ≢ 6 → (other : ℕ) → IsOneOf (plan_statuses by) other → other ≢ number
+pub apart_from : (by : PlanBy) (number : ℕ) → number ≢ 1 → number ≢ 3 → number ≢ 4 → number ≢ 6 → (other : ℕ)
+    → IsOneOf (plan_statuses by) other → other ≢ number
 apart_from by number one three four six other is same =
     none_one (plan_statuses by) number (none_planned by number one three four six) (subst (IsOneOf (plan_statuses by)) same is)
 
@@ -292,11 +299,13 @@ module _ (probes : List Word) (design board : List ℕ) (by : PlanBy) (call : Ca
   abbrev pub course : Course vocabulary
   course = ready_course probes design board by rest
 
-  keeps_plan : (more : List ℕ) → AreAmong (plan_status by ∷ own) more → (ordered : Ordered) (on : Board) → KeepsTo files anew more broken (plan_then by ordered on (rest ordered on))
-  keeps_plan more among ordered on = (plan_front call files ordered on by at_plan).keeps anew more broken (λ n one. among n (among_front (plan_status by ∷ []) own n one)) (rest ordered on)
+  keeps_plan : (more : List ℕ) → AreAmong (plan_status by ∷ own) more → (ordered : Ordered) (on : Board)
+      → KeepsTo files anew more broken (plan_then by ordered on (rest ordered on))
+  keeps_plan more among ordered on = (plan_opening call files ordered on by at_plan).keeps anew more broken (λ n one. among n (among_front (plan_status by ∷ []) own n one)) (rest ordered on)
       (λ plan. keeps_more files anew own broken more (λ n one. among n (inr one)) (rest ordered on plan) (its.keeps ordered on plan))
 
-  keeps_board : (more : List ℕ) → AreAmong (3 ∷ plan_status by ∷ own) more → (ordered : Ordered) → KeepsTo files anew more broken (on_board_course board by rest ordered)
+  keeps_board : (more : List ℕ) → AreAmong (3 ∷ plan_status by ∷ own) more → (ordered : Ordered)
+      → KeepsTo files anew more broken (on_board_course board by rest ordered)
   keeps_board more among ordered = keeps_stage files anew more broken board_kind board (λ on. plan_then by ordered on (rest ordered on)) at_board (among 3 (inl refl))
       (λ on. keeps_plan more (λ n one. among n (inr one)) ordered on)
 
@@ -305,23 +314,26 @@ module _ (probes : List Word) (design board : List ℕ) (by : PlanBy) (call : Ca
       (λ ordered. keeps_board (plan_statuses by ++ own) (λ n one. inr one) ordered)
 
   -- the work is that of the rest, behind the plan of the texts
-  pub work_planned : (texts : PlanTexts) → HoldTexts probes design board by call texts → (did : CallWork) → MayDo course call did → (x : Planned) × Spelled probes design board by call texts x × May seen (WorksHere seen did) (rest x.0 x.1 x.2)
+  pub work_planned : (texts : PlanTexts) → HoldTexts probes design board by call texts → (did : CallWork) → MayDo course call did
+      → (x : Planned) × Spelled probes design board by call texts x × May seen (WorksHere seen did) (rest x.0 x.1 x.2)
   work_planned texts hold did may =
-      let its_front = ready_front probes design board by call files at_design at_board at_plan in
-      let later = its_front.behind 0 (WorksHere seen did) (works_behind seen 0 did) (none_planned by 0 (λ is. omega (arith, is)) (λ is. omega (arith, is)) (λ is. omega (arith, is)) (λ is. omega (arith, is))) (λ x. rest x.0 x.1 x.2) may in
-      (later.0, its_front.spelled texts hold later.0 later.1, later.2)
+      let its_opening = ready_opening probes design board by call files at_design at_board at_plan in
+      let later = its_opening.behind 0 (WorksHere seen did) (works_behind seen 0 did) (none_planned by 0 (λ is. omega (arith, is)) (λ is. omega (arith, is)) (λ is. omega (arith, is)) (λ is. omega (arith, is))) (λ x. rest x.0 x.1 x.2) may in
+      (later.0, its_opening.spelled texts hold later.0 later.1, later.2)
 
   module _ (is : IsCallOf course call) where
     abbrev all : Files vocabulary
     all = its_files probes design board by
 
-    unbroken : (number : ℕ) → IsOneOf (plan_statuses by) number → (reason : Reason) (did : CallWork) → reason_status reason ≡ number → May seen (BreaksHere seen reason did) course → ⊥
+    unbroken : (number : ℕ) → IsOneOf (plan_statuses by) number → (reason : Reason) (did : CallWork) → reason_status reason ≡ number
+        → May seen (BreaksHere seen reason did) course → ⊥
     unbroken number one = no_break seen files anew (plan_statuses by ++ own) broken course keeps_all number (its.whole number one)
 
     -- a refusal with the plan's status is for the plan
-    plan_why : (texts : PlanTexts) → HoldTexts probes design board by call texts → (reason : Reason) → reason_status reason ≡ plan_status by → May seen (RefusesHere reason) course → On probes texts (λ ordered on. IsPlanReason by texts.plan ordered on reason)
+    plan_why : (texts : PlanTexts) → HoldTexts probes design board by call texts → (reason : Reason) → reason_status reason ≡ plan_status by
+        → May seen (RefusesHere reason) course → On probes texts (λ ordered on. IsPlanReason by texts.plan ordered on reason)
     plan_why texts hold reason same may =
-        let two = two_front probes design board by call all (inl refl) (inr (inl refl)) (given_among by (kinds.Design, design) (kinds.Board, board) []) in
+        let two = two_openings probes design board by call all (inl refl) (inr (inl refl)) (given_among by (kinds.Design, design) (kinds.Board, board) []) in
         let later = two.behind (plan_status by) (RefusesHere reason) (refusal_behind seen (plan_status by) reason same) (plan_differs by) (λ x. plan_then by x.0 x.1 (rest x.0 x.1)) may in
         let are = two.spelled (texts.design, texts.board) (hold.design_held, hold.board_held) later.0 later.1 in
         record {
@@ -334,10 +346,12 @@ module _ (probes : List Word) (design board : List ℕ) (by : PlanBy) (call : Ca
         }
 
     -- texts of a design and a board lead to the plan
-    to_plan : (P : Course vocabulary → Type 0) (texts : PlanTexts) → HoldTexts probes design board by call texts → (x : Ordered) × IsNetlistOf probes texts.design x → (on : Board) → SpellsBoard texts.board on
-        → ((ordered : Ordered) (on : Board) → AreSpelledOn probes texts.design texts.board ordered on → StandsAt seen all P (plan_then by ordered on (rest ordered on))) → StandsAt seen all P course
+    to_plan : (P : Course vocabulary → Type 0) (texts : PlanTexts) → HoldTexts probes design board by call texts
+        → (x : Ordered) × IsNetlistOf probes texts.design x → (on : Board) → SpellsBoard texts.board on
+        → ((ordered : Ordered) (on : Board) → AreSpelledOn probes texts.design texts.board ordered on → StandsAt seen all P (plan_then by ordered on (rest ordered on)))
+        → StandsAt seen all P course
     to_plan P texts hold some on spells there =
-        (two_front probes design board by call all (inl refl) (inr (inl refl)) (given_among by (kinds.Design, design) (kinds.Board, board) [])).comes P (texts.design, texts.board) (hold.design_held, hold.board_held)
+        (two_openings probes design board by call all (inl refl) (inr (inl refl)) (given_among by (kinds.Design, design) (kinds.Board, board) [])).comes P (texts.design, texts.board) (hold.design_held, hold.board_held)
         (some, λ ordered netlist. (on, spells)) (λ x. plan_then by x.0 x.1 (rest x.0 x.1)) (λ x are. there x.0 x.1 (record { netlist = are.0; board_is = are.1 }))
 
 module _ (probes : List Word) (few : length probes ≤ 64) (design board : List ℕ) (call : Call) (rest : Rest) (files anew : Files vocabulary) (own broken : List ℕ) (at_design : IsOneOf files (kinds.Design, design)) (at_board : IsOneOf files (kinds.Board, board)) where
@@ -384,7 +398,7 @@ module _ (probes : List Word) (few : length probes ≤ 64) (design board : List 
               λ reason bad. record { ordered = ordered; board = on; are = are; is = (one, spelled, bad) },
             ))));
         absent_plan = λ gone. call_barred (1 ∷ 3 ∷ []) (ready_course probes design board (of_file plan) rest) call is
-            ((two_front probes design board (of_file plan) call files at_design at_board at_plan).barred (1 ∷ 3 ∷ []) (λ n one. one) (λ x. plan_then (of_file plan) x.0 x.1 (rest x.0 x.1))
+            ((two_openings probes design board (of_file plan) call files at_design at_board at_plan).barred (1 ∷ 3 ∷ []) (λ n one. one) (λ x. plan_then (of_file plan) x.0 x.1 (rest x.0 x.1))
             (λ x. barred_here told (1 ∷ 3 ∷ []) plan_kind plan (sound_then x.0 x.1 (rest x.0 x.1)) gone));
       }
   plan_table (for_chips chips) at_plan its is =
@@ -409,18 +423,19 @@ module _ (probes : List Word) (few : length probes ≤ 64) (design board : List 
               λ reason bad. record { ordered = ordered; board = on; are = are; is = (list, spelled, bad) },
             ))));
         absent_chips = λ gone. call_barred (1 ∷ 3 ∷ []) (ready_course probes design board (for_chips chips) rest) call is
-            ((two_front probes design board (for_chips chips) call files at_design at_board at_plan).barred (1 ∷ 3 ∷ []) (λ n one. one) (λ x. plan_then (for_chips chips) x.0 x.1 (rest x.0 x.1))
+            ((two_openings probes design board (for_chips chips) call files at_design at_board at_plan).barred (1 ∷ 3 ∷ []) (λ n one. one) (λ x. plan_then (for_chips chips) x.0 x.1 (rest x.0 x.1))
             (λ x. barred_here told (1 ∷ 3 ∷ []) chips_kind chips (placed_then x.0 x.1 (rest x.0 x.1)) gone));
       }
 
-  pub planned_table : (by : PlanBy) → IsAmong files by → Kept by → IsCallOf (ready_course probes design board by rest) call → PlannedStatuses probes design board by call
+  pub planned_table : (by : PlanBy) → IsAmong files by → Kept by → IsCallOf (ready_course probes design board by rest) call
+      → PlannedStatuses probes design board by call
   planned_table by at_plan its is =
       let told = call.before.shelf.told in
       record {
         of_design = design_table probes (IsNetlistOf probes) (netlist_apart probes) design (on_board_course board by rest) call files anew (3 ∷ plan_status by ∷ own) broken at_design
             (keeps_board probes design board by call rest files anew own broken at_design at_board at_plan its (3 ∷ plan_status by ∷ own) (λ n one. one))
             (λ is. omega (arith, is), (λ is. (plan_differs by).0 (sym is), its.apart 1 (inl refl))) (its.whole 1 (inl refl)) is;
-        of_board = file_table call (its_board probes design board) (1 ∷ []) (stage (netlist_kind probes) design) _ _ _ _ (file_front told (its_board probes design board) (netlist_kind probes) design (inl refl)) board_kind board
+        of_board = file_table call (its_board probes design board) (1 ∷ []) (stage (netlist_kind probes) design) _ _ _ _ (file_opening told (its_board probes design board) (netlist_kind probes) design (inl refl)) board_kind board
             (λ ordered on. plan_then by ordered on (rest ordered on)) (inr (inl refl)) is (lit< tt) (inl (lit< tt)) (λ is. omega (arith, is), tt)
             (λ ordered on reason same. no_refusal told files anew (plan_status by ∷ own) broken (plan_then by ordered on (rest ordered on))
             (keeps_plan probes design board by call rest files anew own broken at_design at_board at_plan its (plan_status by ∷ own) (λ n one. one) ordered on) 3

@@ -30,11 +30,13 @@ use Rattle.vw_statuses.proofs.SimLaws.{grade_table, sim_table}
 use Rattle.vw_statuses.proofs.WrittenLaws.{plain_writer, written_ends}
 
 -- what out has after work that was done
-wrote : (What : CallWork → Type 0) (call : Call) (done : IsDone What call) (text : List ℕ) → done.did.text ≡ text → call.after.out ≡ appended call.before.out text
+wrote : (What : CallWork → Type 0) (call : Call) (done : IsDone What call) (text : List ℕ) → done.did.text ≡ text
+    → call.after.out ≡ appended call.before.out text
 wrote What call done text is = ap (λ (o : SeenOutside vocabulary.Word). o.out) done.leaves ∙ ap (appended call.before.out) is
 
 -- a text of a planned board
-planned : (probes : List Word) (by : PlanBy) (text : Ordered → Board → Plan → List ℕ) (texts : PlanTexts) (call : Call) → IsDone (IsWritten probes by text AlwaysFits texts) call → WritesPlanned probes by text texts call.before.out call.after.out
+planned : (probes : List Word) (by : PlanBy) (text : Ordered → Board → Plan → List ℕ) (texts : PlanTexts) (call : Call)
+    → IsDone (IsWritten probes by text AlwaysFits texts) call → WritesPlanned probes by text texts call.before.out call.after.out
 planned probes by text texts call done = record {
   ordered = done.is.ordered;
   board = done.is.its_board;
@@ -43,7 +45,8 @@ planned probes by text texts call done = record {
   wrote = wrote (IsWritten probes by text AlwaysFits texts) call done (text done.is.ordered done.is.its_board done.is.plan) (ap (λ (w : CallWork). w.text) done.is.is);
 }
 
-hold_texts : (probes : List Word) (design board : List ℕ) (by : PlanBy) (call : Call) (texts : PlanTexts) → AreHeld call.before.shelf.told design board by texts → HoldTexts probes design board by call texts
+hold_texts : (probes : List Word) (design board : List ℕ) (by : PlanBy) (call : Call) (texts : PlanTexts)
+    → AreHeld call.before.shelf.told design board by texts → HoldTexts probes design board by call texts
 hold_texts probes design board made_here call texts are = record { design_held = are.0; board_held = are.1; plan_held = tt }
 hold_texts probes design board (of_file plan) call texts are = record { design_held = are.0; board_held = are.1; plan_held = are.2 }
 hold_texts probes design board (for_chips chips) call texts are = record { design_held = are.0; board_held = are.1; plan_held = are.2 }
@@ -54,7 +57,8 @@ constant text call is status =
     let done = (call_table (writes {V = vocabulary} text) call is).done status in
     ap (λ (o : SeenOutside vocabulary.Word). o.out) done.leaves ∙ ap (λ (w : CallWork). appended call.before.out w.text) done.is
 
-pub promised : BoardsShow → (spelled : Spelled) (call : Call) → IsCallOf (course_of spelled) call → call.status ≡ 0 → Promise spelled call.before.shelf.told call.before.out call.after.out
+pub promised : BoardsShow → (spelled : Spelled) (call : Call) → IsCallOf (course_of spelled) call → call.status ≡ 0
+    → Promise spelled call.before.shelf.told call.before.out call.after.out
 promised show (words.sim design stimulus unknown probes) call is status = λ d s design_held stimulus_held.
     writes_over probes (trace_of unknown) design d s _ call
     ((sim_table probes (trace_of unknown) design stimulus call is).traced.ends.done (d, s) (record { its_held = design_held; stimulus_held = stimulus_held }) status)

@@ -14,7 +14,7 @@ use Rattle.vw_course.proofs.CallTable.{call_table}
 use Rattle.vw_course.proofs.Inductions.{its_text, of_held}
 use Rattle.vw_course.proofs.StandLaws.{call_refused}
 use Rattle.vw_course.proofs.EveryPlace.{IsNoneOf, none_both, among_back, keeps_stage, no_break, comes}
-use Rattle.vw_course.proofs.Fronts.{IsFront, file_front, both_fronts}
+use Rattle.vw_course.proofs.Openings.{IsOpening, file_opening, both_openings}
 use Rattle.vw_course.proofs.StageLaws.{past, at_bad, stage_behind, refused_past, refusal_behind, refused_for}
 use Rattle.vw_course.proofs.BarredLaws.{barred_here, call_barred}
 use Rattle.vw_front.specs.Designs.{IsNetlistOf}
@@ -40,15 +40,17 @@ use Rattle.vw_statuses.specs.TracedStatuses as traced
 use Rattle.vw_statuses.specs.ResumeStatuses.{ResumeTexts, Resumption, AreResumed, trace_from_state, IsNoState, resumptions, up_to_state, its_files, UsesFrom, IsReadyPlan, IsReady, AreTooMany, MayBeTooMany, CarriesFrom, ResumeStatuses}
 use Rattle.vw_statuses.proofs.OnBoards.{netlist_same}
 use Rattle.vw_statuses.proofs.TracedLaws.{ComesToRows, keeps_rows, barred_rows, same_rows, traced_table}
-use Rattle.vw_statuses.proofs.PlannedLaws.{IsAmong, Planned, given_among, other_among, none_planned, apart_from, Has, Spelled, front, ready_front, IsRest, keeps_all, work_planned, planned_table}
+use Rattle.vw_statuses.proofs.PlannedLaws.{IsAmong, Planned, given_among, other_among, none_planned, apart_from, Has, Spelled, opening, ready_opening, IsRest, keeps_all, work_planned, planned_table}
 use Rattle.vw_statuses.proofs.RunLaws.{may_spell}
 
 -- the state of a text is one, for whatever netlist of the design
-same_state : (texts : ResumeTexts) (its : Resumption) → AreResumed texts its → (ordered : Ordered) (state : State) → IsStateOf (latch_count ordered.flat.cells) texts.state state → state ≡ its.state
+same_state : (texts : ResumeTexts) (its : Resumption) → AreResumed texts its → (ordered : Ordered) (state : State)
+    → IsStateOf (latch_count ordered.flat.cells) texts.state state → state ≡ its.state
 same_state texts its are ordered state is = spelled_once texts.state state its.state is.spells are.state_is.spells
 
 -- and so is the netlist
-same_flat : (texts : ResumeTexts) (its : Resumption) → AreResumed texts its → (ordered : Ordered) → IsNetlistOf [] texts.design ordered → ordered.flat ≡ its.ordered.flat
+same_flat : (texts : ResumeTexts) (its : Resumption) → AreResumed texts its → (ordered : Ordered) → IsNetlistOf [] texts.design ordered
+    → ordered.flat ≡ its.ordered.flat
 same_flat texts its are ordered is = netlist_same [] texts.design ordered its.ordered is are.netlist
 
 module _ (design board : List ℕ) (by : PlanBy) (state stimulus : List ℕ) (workers : ℕ) (call : Call) where
@@ -116,27 +118,27 @@ module _ (design board : List ℕ) (by : PlanBy) (state stimulus : List ℕ) (wo
   state_first : IsOneOf first (kinds.State, state)
   state_first = other_among by (kinds.Design, design) (kinds.Board, board) (kinds.State, state) ((kinds.State, state) ∷ []) (inl refl)
 
-  -- ---- its front
+  -- ---- its opening
 
   abbrev ToPlan : Files vocabulary → Type 1
-  ToPlan files = IsFront told files (plan_statuses by) (front [] design board by call) (Has [] design board by call) (HoldTexts [] design board by call) (HavePlan [] by) (Spelled [] design board by call)
+  ToPlan files = IsOpening told files (plan_statuses by) (opening [] design board by call) (Has [] design board by call) (HoldTexts [] design board by call) (HavePlan [] by) (Spelled [] design board by call)
 
   to_plan : (files : Files vocabulary) → IsOneOf files (kinds.Design, design) → IsOneOf files (kinds.Board, board) → IsAmong files by → ToPlan files
-  to_plan files at_design at_board at_given = ready_front [] design board by call files at_design at_board at_given
+  to_plan files at_design at_board at_given = ready_opening [] design board by call files at_design at_board at_given
 
   -- what the names of the plan and of the state may have
   abbrev HasState : Planned × State → Type 0
   HasState its = Has [] design board by call its.0 × ((t : List ℕ) × IsTextOf (told state) t × IsStateOf (latch_count its.0.0.flat.cells) t its.1)
 
   -- the state comes behind the plan
-  to_state : IsFront told all (plan_statuses by ++ 11 ∷ []) {A = Planned × State} {T = PlanTexts × List ℕ} (λ next. front [] design board by call (λ its. stage (state_kind (latch_count its.0.flat.cells)) state (λ one. next (its, one)))) HasState
+  to_state : IsOpening told all (plan_statuses by ++ 11 ∷ []) {A = Planned × State} {T = PlanTexts × List ℕ} (λ next. opening [] design board by call (λ its. stage (state_kind (latch_count its.0.flat.cells)) state (λ one. next (its, one)))) HasState
       (λ t. HoldTexts [] design board by call t.0 × (told state ≡ held t.1)) (λ t. HavePlan [] by t.0 × ((its : Planned) → Spelled [] design board by call t.0 its → (one : State) × IsStateOf (latch_count its.0.flat.cells) t.1 one))
       (λ t its. Spelled [] design board by call t.0 its.0 × IsStateOf (latch_count its.0.0.flat.cells) t.1 its.1)
-  to_state = both_fronts told all (plan_statuses by) (11 ∷ []) (front [] design board by call) _ _ _ _ (to_plan all (inl refl) (inr (inl refl)) at_plan)
-      (λ its. stage (state_kind (latch_count its.0.flat.cells)) state) _ _ _ _ (λ its. file_front told all (state_kind (latch_count its.0.flat.cells)) state at_state)
+  to_state = both_openings told all (plan_statuses by) (11 ∷ []) (opening [] design board by call) _ _ _ _ (to_plan all (inl refl) (inr (inl refl)) at_plan)
+      (λ its. stage (state_kind (latch_count its.0.flat.cells)) state) _ _ _ _ (λ its. file_opening told all (state_kind (latch_count its.0.flat.cells)) state at_state)
 
-  none_front : (number : ℕ) → number ≢ 1 → number ≢ 3 → number ≢ 4 → number ≢ 6 → number ≢ 11 → IsNoneOf (plan_statuses by ++ 11 ∷ []) number
-  none_front number one three four six eleven = none_both (plan_statuses by) (11 ∷ []) number (none_planned by number one three four six) (eleven, tt)
+  none_opening : (number : ℕ) → number ≢ 1 → number ≢ 3 → number ≢ 4 → number ≢ 6 → number ≢ 11 → IsNoneOf (plan_statuses by ++ 11 ∷ []) number
+  none_opening number one three four six eleven = none_both (plan_statuses by) (11 ∷ []) number (none_planned by number one three four six) (eleven, tt)
 
   apart : (number : ℕ) → IsOneOf (plan_statuses by) number → IsNoneOf own number
   apart number one = (
@@ -182,7 +184,8 @@ module _ (design board : List ℕ) (by : PlanBy) (state stimulus : List ℕ) (wo
     state_for : (ordered : Ordered) → IsNetlistOf [] texts.design ordered → IsStateOf (latch_count ordered.flat.cells) texts.state its.state
     state_for ordered is = subst (λ (flat : Flat). IsStateOf (latch_count flat.cells) texts.state its.state) (sym (same_flat texts its are ordered is)) are.state_is
 
-    come_to : (P : Course vocabulary → Type 0) → ((scripts : Scripts) → Uses scripts → StandsAt told all P (rows_then its.ordered its.state scripts)) → StandsAt told all P course
+    come_to : (P : Course vocabulary → Type 0)
+        → ((scripts : Scripts) → Uses scripts → StandsAt told all P (rows_then its.ordered its.state scripts)) → StandsAt told all P course
     come_to P there = to_state.comes P (ready.plan_texts, texts.state) (ready.planned_held, ready.state_held)
         (ready.have, λ one spelled. (its.state, state_for one.0 (own_design one.0 spelled.on.netlist))) (λ one. goes_on one.0 one.1)
         (λ one spelled.
@@ -195,7 +198,7 @@ module _ (design board : List ℕ) (by : PlanBy) (state stimulus : List ℕ) (wo
   to_rows = record {
     keeps = keeps_all [] design board by call rest all anew own (5 ∷ []) (inl refl) (inr (inl refl)) at_plan is_rest;
     behind = λ P passes may.
-        let later = to_state.behind 5 P passes (none_front 5 (λ is. omega (arith, is)) (λ is. omega (arith, is)) (λ is. omega (arith, is)) (λ is. omega (arith, is)) (λ is. omega (arith, is))) (λ one. goes_on one.0 one.1) may in
+        let later = to_state.behind 5 P passes (none_opening 5 (λ is. omega (arith, is)) (λ is. omega (arith, is)) (λ is. omega (arith, is)) (λ is. omega (arith, is)) (λ is. omega (arith, is))) (λ one. goes_on one.0 one.1) may in
         (record { ordered = later.0.0.0; state = later.0.1 }, λ texts hold. resumed texts hold later.0 later.1, words later.0.0 later.0.1, uses later.0 later.1, later.2);
     comes = λ P texts s ready its are stands. come_to texts ready.planned its are P stands;
     ready_held = λ texts s ready. ready.stimulus_held;
@@ -264,7 +267,8 @@ module _ (design board : List ℕ) (by : PlanBy) (state stimulus : List ℕ) (wo
       (reason, subst (λ (flat : Flat). IsBadState (latch_count flat.cells) texts.state reason) same none.bad))
 
   -- and so are too many clocks
-  clocks_bad : (texts : ResumeTexts) (s : List ℕ) (its : Resumption) (rows : List (List Bool)) → ReadyPlan texts → Holds call stimulus s → traced.AreSpelled subject texts s its rows → MOST_CLOCKS < its.state.clock + length rows
+  clocks_bad : (texts : ResumeTexts) (s : List ℕ) (its : Resumption) (rows : List (List Bool)) → ReadyPlan texts → Holds call stimulus s
+      → traced.AreSpelled subject texts s its rows → MOST_CLOCKS < its.state.clock + length rows
       → StandsAt told all (IsToRefuse (AreTooMany design board by state stimulus workers texts s)) course
   clocks_bad texts s its rows ready held_s are many =
       let P : Course vocabulary → Type 0 = IsToRefuse (AreTooMany design board by state stimulus workers texts s) in
@@ -277,7 +281,8 @@ module _ (design board : List ℕ) (by : PlanBy) (state stimulus : List ℕ) (wo
 
   -- ---- the table
 
-  carries : (texts : ResumeTexts) (s : List ℕ) → IsDone (IsTrace subject trace_from_state texts s Uses) call → CarriesFrom design board by state stimulus workers texts s call
+  carries : (texts : ResumeTexts) (s : List ℕ) → IsDone (IsTrace subject trace_from_state texts s Uses) call
+      → CarriesFrom design board by state stimulus workers texts s call
   carries texts s done =
       let trace = done.is in
       let uses = trace.uses in

@@ -10,7 +10,7 @@ use Rattle.vw_course.specs.Places.{IsOneOf, Files, StandsAt}
 use Rattle.vw_course.proofs.CallTable.{call_table}
 use Rattle.vw_course.proofs.Inductions.{its_text, of_held}
 use Rattle.vw_course.proofs.EveryPlace.{IsNoneOf, among_back, comes}
-use Rattle.vw_course.proofs.Fronts.{IsFront}
+use Rattle.vw_course.proofs.Openings.{IsOpening}
 use Rattle.vw_course.proofs.BarredLaws.{call_barred}
 use Rattle.vw_front.specs.Designs.{WatchedDesign, IsWatchedDesignOf}
 use Rattle.vw_plan.specs.declared.board.Board.{Board}
@@ -29,16 +29,19 @@ use Rattle.vw_statuses.specs.LinkTraffic.{UsesBoard}
 use Rattle.vw_statuses.proofs.OnBoards.{design_of_netlist}
 use Rattle.vw_statuses.proofs.CarriedWords.{carries_all}
 use Rattle.vw_statuses.proofs.TracedLaws.{ComesToRows, keeps_rows, barred_rows, traced_table}
-use Rattle.vw_statuses.proofs.PlannedLaws.{IsAmong, given_among, other_among, none_planned, apart_from, Has, Spelled, front, ready_front, IsRest, keeps_all, work_planned, planned_table}
+use Rattle.vw_statuses.proofs.PlannedLaws.{IsAmong, given_among, other_among, none_planned, apart_from, Has, Spelled, opening, ready_opening, IsRest, keeps_all, work_planned, planned_table}
 
 -- the plan of a held text is one that its name may have
-pub plan_by : (call : Call) (by : PlanBy) (p : List ℕ) → HoldsGiven call by p → (ordered : Ordered) (board : Board) (plan : Plan) → IsPlanOf by p ordered board plan → IsPlanBy call.before.shelf.told by ordered board plan
+pub plan_by : (call : Call) (by : PlanBy) (p : List ℕ) → HoldsGiven call by p → (ordered : Ordered) (board : Board) (plan : Plan)
+    → IsPlanOf by p ordered board plan → IsPlanBy call.before.shelf.told by ordered board plan
 plan_by call made_here p holds ordered board plan is = is
 plan_by call (of_file name) p holds ordered board plan is = (p, of_held (call.before.shelf.told name) p holds, is.0, is.1)
 plan_by call (for_chips name) p holds ordered board plan is = (p, of_held (call.before.shelf.told name) p holds, is.0, is.1, is.2)
 
 -- and so are the texts of a design and a board
-pub may_spell : (probes : List Word) (design board : List ℕ) (by : PlanBy) (call : Call) (texts : PlanTexts) → HoldTexts probes design board by call texts → (ordered : Ordered) (on : Board) (plan : Plan) → AreSpelled probes by texts ordered on plan
+pub may_spell : (probes : List Word) (design board : List ℕ) (by : PlanBy) (call : Call) (texts : PlanTexts)
+    → HoldTexts probes design board by call texts → (ordered : Ordered) (on : Board) (plan : Plan)
+    → AreSpelled probes by texts ordered on plan
     → MaySpell probes design board by call.before.shelf.told ordered on plan
 may_spell probes design board by call texts hold ordered on plan are = record {
   d = texts.design;
@@ -85,8 +88,8 @@ module _ (probes : List Word) (text : TextOver WatchedDesign) (flat_text : TextO
   at_stimulus : IsOneOf all (kinds.Stimulus, stimulus)
   at_stimulus = other_among by (kinds.Design, design) (kinds.Board, board) (kinds.Stimulus, stimulus) anew (inl refl)
 
-  its_front : IsFront told all (plan_statuses by) (front probes design board by call) (Has probes design board by call) (HoldTexts probes design board by call) (HavePlan probes by) (Spelled probes design board by call)
-  its_front = ready_front probes design board by call all (inl refl) (inr (inl refl)) at_plan
+  its_opening : IsOpening told all (plan_statuses by) (opening probes design board by call) (Has probes design board by call) (HoldTexts probes design board by call) (HavePlan probes by) (Spelled probes design board by call)
+  its_opening = ready_opening probes design board by call all (inl refl) (inr (inl refl)) at_plan
 
   apart : (number : ℕ) → IsOneOf (plan_statuses by) number → IsNoneOf (5 ∷ []) number
   apart number one = (apart_from by 5 (λ is. omega (arith, is)) (λ is. omega (arith, is)) (λ is. omega (arith, is)) (λ is. omega (arith, is)) number one, tt)
@@ -106,7 +109,7 @@ module _ (probes : List Word) (text : TextOver WatchedDesign) (flat_text : TextO
   to_rows = record {
     keeps = keeps_all probes design board by call rest all anew (5 ∷ []) (5 ∷ []) (inl refl) (inr (inl refl)) at_plan is_rest;
     behind = λ P passes may.
-        let later = its_front.behind 5 P passes (none_planned by 5 (λ is. omega (arith, is)) (λ is. omega (arith, is)) (λ is. omega (arith, is)) (λ is. omega (arith, is))) (λ x. rest x.0 x.1 x.2) may in
+        let later = its_opening.behind 5 P passes (none_planned by 5 (λ is. omega (arith, is)) (λ is. omega (arith, is)) (λ is. omega (arith, is)) (λ is. omega (arith, is))) (λ x. rest x.0 x.1 x.2) may in
         let netlist = later.1.on.netlist in (
           netlist.watched,
           λ d held_d. subst (λ (t : List ℕ). IsWatchedDesignOf probes t netlist.watched) (its_text (told design) later.1.d d held_d later.1.design_of) netlist.is,
@@ -116,7 +119,7 @@ module _ (probes : List Word) (text : TextOver WatchedDesign) (flat_text : TextO
         );
     comes = λ P d s ready its is stands.
         let own : IsWatchedDesignOf probes ready.texts.design its = subst (λ (t : List ℕ). IsWatchedDesignOf probes t its) (sym ready.design_is) is in
-        its_front.comes P ready.texts ready.planned_held ready.have (λ x. rest x.0 x.1 x.2)
+        its_opening.comes P ready.texts ready.planned_held ready.have (λ x. rest x.0 x.1 x.2)
         (λ x are.
         let flat = design_of_netlist probes ready.texts.design its x.0 own are.on.netlist in
         of_netlist (λ (place : Course vocabulary). StandsAt told all P place) stimulus text flat_text (words x.0 x.1 x.2) its x.0 flat (agree its x.0 flat (probes_counted probes d its is))
@@ -133,13 +136,13 @@ module _ (probes : List Word) (text : TextOver WatchedDesign) (flat_text : TextO
   run_table few is = record {
     planned = planned_table probes few design board call rest all anew (5 ∷ []) (5 ∷ []) (inl refl) (inr (inl refl)) by at_plan is_rest is;
     traced = run_traced is;
-    on_links = λ texts s hold held_s status. carries_all probes text design call workers unknown texts.design s (MaySpell probes design board by told) (AreSpelled probes by texts) (λ ordered on plan may. its_front.spelled texts hold (ordered, on, plan) may)
+    on_links = λ texts s hold held_s status. carries_all probes text design call workers unknown texts.design s (MaySpell probes design board by told) (AreSpelled probes by texts) (λ ordered on plan may. its_opening.spelled texts hold (ordered, on, plan) may)
         ((run_traced is).ends.done (texts.design, s) (record { its_held = hold.design_held; stimulus_held = held_s }) status);
     done_planned = λ texts hold status.
         let done = (call_table course call is).done status in
         let later = work_planned probes design board by call rest all anew (5 ∷ []) (5 ∷ []) (inl refl) (inr (inl refl)) at_plan is_rest texts hold done.did done.is in
         (later.0.2, record { ordered = later.0.0; board = later.0.1; are = later.1 });
     comes = comes all anew numbers (5 ∷ []) course to_rows.keeps call is (among_back (plan_statuses by) (5 ∷ []));
-    absent_stimulus = λ gone. call_barred (plan_statuses by) course call is (its_front.barred (plan_statuses by) (λ n one. one) (λ x. rest x.0 x.1 x.2)
+    absent_stimulus = λ gone. call_barred (plan_statuses by) course call is (its_opening.barred (plan_statuses by) (λ n one. one) (λ x. rest x.0 x.1 x.2)
         (λ x. barred_rows stimulus x.0.flat.inputs no_check (flat_text x.0) (words x.0 x.1 x.2) told (plan_statuses by) gone));
   }

@@ -6,7 +6,7 @@ use Rattle.vw_course.specs.Course.{Course, stage}
 use Rattle.vw_course.specs.Endings.{IsCallOf}
 use Rattle.vw_course.specs.Places.{Files, StandsAt}
 use Rattle.vw_course.proofs.EveryPlace.{KeepsTo, comes}
-use Rattle.vw_course.proofs.Fronts.{IsFront, MayHave, file_front}
+use Rattle.vw_course.proofs.Openings.{IsOpening, MayHave, file_opening}
 use Rattle.vw_course.proofs.BarredLaws.{call_barred}
 use Rattle.vw_front.specs.declared.fault.NetlistFault.{NetlistFault}
 use Rattle.vw_front.specs.declared.named.NamedNetlist.{NamedNetlist}
@@ -48,8 +48,8 @@ module _ (probes : List Word) {Thing : Type 0} (Spells : List ℕ → Thing → 
   abbrev Hold : Call → List ℕ → List ℕ → Type 0
   Hold = HoldTexts subject text stimulus
 
-  its_front : IsFront told both (1 ∷ []) {A = Thing} {T = List ℕ} (stage (given_kind probes Spells apart) design) (MayHave told (given_kind probes Spells apart) design) (λ d. told design ≡ held d) (λ d. (its : Thing) × Spells d its) Spells
-  its_front = file_front told both (given_kind probes Spells apart) design (inl refl)
+  its_opening : IsOpening told both (1 ∷ []) {A = Thing} {T = List ℕ} (stage (given_kind probes Spells apart) design) (MayHave told (given_kind probes Spells apart) design) (λ d. told design ≡ held d) (λ d. (its : Thing) × Spells d its) Spells
+  its_opening = file_opening told both (given_kind probes Spells apart) design (inl refl)
 
   keeps_own : (its : Thing) → KeepsTo both anew (5 ∷ []) (5 ∷ []) (next its)
   keeps_own its = keeps_rows stimulus (width_of its) no_check (text its) no_links both (5 ∷ []) (inr (inl refl)) (inl refl) tt
@@ -62,9 +62,9 @@ module _ (probes : List Word) {Thing : Type 0} (Spells : List ℕ → Thing → 
   to_rows = record {
     keeps = keeps;
     behind = λ P behind may.
-        let later = its_front.behind 5 P behind (λ is. omega (arith, is), tt) next may in
-        (later.0, λ d held_d. its_front.spelled d held_d later.0 later.1, no_links, refl, later.2);
-    comes = λ P d s hold its is stands. its_front.comes P d hold.its_held (its, is) next
+        let later = its_opening.behind 5 P behind (λ is. omega (arith, is), tt) next may in
+        (later.0, λ d held_d. its_opening.spelled d held_d later.0 later.1, no_links, refl, later.2);
+    comes = λ P d s hold its is stands. its_opening.comes P d hold.its_held (its, is) next
         (λ other so. subst (λ (one : Course vocabulary). StandsAt told both P one) (once d its other is so) (stands no_links refl));
     ready_held = λ d s hold. hold.stimulus_held;
     passes = λ texts s ready its rows are. tt;
@@ -77,17 +77,19 @@ module _ (probes : List Word) {Thing : Type 0} (Spells : List ℕ → Thing → 
     traced = traced_table subject (λ its. no_check) text stimulus course call both (1 ∷ 5 ∷ []) Hold UsesNone to_rows is;
     comes = comes both anew (1 ∷ 5 ∷ []) (5 ∷ []) course keeps call is (λ number one. inr one);
     absent_stimulus = λ gone. call_barred (1 ∷ []) course call is
-        (its_front.barred (1 ∷ []) (λ n one. one) next (λ its. barred_rows stimulus (width_of its) no_check (text its) no_links told (1 ∷ []) gone));
+        (its_opening.barred (1 ∷ []) (λ n one. one) next (λ its. barred_rows stimulus (width_of its) no_check (text its) no_links told (1 ∷ []) gone));
   }
 
 -- a text of the run of a design, which is one
-pub sim_table : (probes : List Word) (text : TextOver WatchedDesign) (design stimulus : List ℕ) (call : Call) → IsCallOf (over_design_course probes design stimulus text) call → SimStatuses probes text design stimulus call
+pub sim_table : (probes : List Word) (text : TextOver WatchedDesign) (design stimulus : List ℕ) (call : Call)
+    → IsCallOf (over_design_course probes design stimulus text) call → SimStatuses probes text design stimulus call
 sim_table probes text design stimulus call is =
     over_design_table probes (IsWatchedDesignOf probes) (design_apart probes) design_width text design stimulus
     (λ d one other its so. ap (design_course stimulus text no_links) (watched_once probes d one other its so)) call is
 
 -- a text has one netlist with names, but for the order of its gates
-named_once : (stimulus : List ℕ) (unknown : Bool) (d : List ℕ) (one other : NamedNetlist) → IsNamedNetlistOf [] d one → IsNamedNetlistOf [] d other → grading_course stimulus unknown one ≡ grading_course stimulus unknown other
+named_once : (stimulus : List ℕ) (unknown : Bool) (d : List ℕ) (one other : NamedNetlist) → IsNamedNetlistOf [] d one
+    → IsNamedNetlistOf [] d other → grading_course stimulus unknown one ≡ grading_course stimulus unknown other
 named_once stimulus unknown d one other is its =
     let same : is.watched ≡ its.watched = watched_once [] d is.watched its.watched is.is its.is in
     let nets : one.nets ≡ other.nets = is.nets ∙ ap (λ (watched : WatchedDesign). net_names watched.design) same ∙ sym its.nets in
@@ -95,6 +97,7 @@ named_once stimulus unknown d one other is its =
     λ i. rows_course stimulus (flats i).inputs (flat_grading (nets i) unknown (flats i)) no_links
 
 -- the grading of it
-pub grade_table : (unknown : Bool) (design stimulus : List ℕ) (call : Call) → IsCallOf (grade_course design stimulus unknown) call → GradeStatuses unknown design stimulus call
+pub grade_table : (unknown : Bool) (design stimulus : List ℕ) (call : Call) → IsCallOf (grade_course design stimulus unknown) call
+    → GradeStatuses unknown design stimulus call
 grade_table unknown design stimulus call is =
     over_design_table [] (IsNamedNetlistOf []) (named_apart []) netlist_width (grading_of unknown) design stimulus (named_once stimulus unknown) call is

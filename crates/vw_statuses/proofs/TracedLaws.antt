@@ -8,7 +8,7 @@ use Rattle.vw_course.specs.Places.{IsOneOf, Files, WorksHere, ReadsAgainHere, Re
 use Rattle.vw_course.specs.Statuses.{MayDo}
 use Rattle.vw_course.proofs.StandLaws.{held_work, call_refused}
 use Rattle.vw_course.proofs.EveryPlace.{KeepsTo, keeps_judged, keeps_stage, no_break_held}
-use Rattle.vw_course.proofs.Fronts.{end_table}
+use Rattle.vw_course.proofs.Openings.{end_table}
 use Rattle.vw_course.proofs.StageLaws.{IsBehind, past, past_judged, at_bad, judged_behind, work_past, refused_past, works_behind, again_behind, refusal_behind, refused_for}
 use Rattle.vw_course.proofs.BarredLaws.{IsBarred, barred_here}
 use Rattle.vw_course.proofs.CarriedOut.{text_part}
@@ -31,7 +31,8 @@ ChecksAmong no_check numbers = Unit {0}
 ChecksAmong (check_by judged) numbers = IsOneOf numbers 11
 
 module _ (next : List (List Bool) → Course vocabulary) (rows : List (List Bool)) where
-  keeps_checked : (files anew : Files vocabulary) (numbers broken : List ℕ) (check : RowCheck) → ChecksAmong check numbers → KeepsTo files anew numbers broken (next rows) → KeepsTo files anew numbers broken (with_check check next rows)
+  keeps_checked : (files anew : Files vocabulary) (numbers broken : List ℕ) (check : RowCheck) → ChecksAmong check numbers
+      → KeepsTo files anew numbers broken (next rows) → KeepsTo files anew numbers broken (with_check check next rows)
   keeps_checked files anew numbers broken no_check one keeps = keeps
   keeps_checked files anew numbers broken (check_by judged) one keeps = keeps_judged files anew numbers broken (judged rows) (λ done. next rows) one (λ done. keeps)
 
@@ -42,7 +43,8 @@ module _ (next : List (List Bool) → Course vocabulary) (rows : List (List Bool
     checked_behind passes (check_by judged) may = (judged_behind told 5 P passes (judged rows) (λ done. next rows) (λ is. omega (arith, is)) may).2
 
     -- rows that pass it go on
-    past_check : (files : Files vocabulary) (check : RowCheck) → PassCheck check rows → StandsAt told files P (next rows) → StandsAt told files P (with_check check next rows)
+    past_check : (files : Files vocabulary) (check : RowCheck) → PassCheck check rows → StandsAt told files P (next rows)
+        → StandsAt told files P (with_check check next rows)
     past_check files no_check pass stands = stands
     past_check files (check_by judged) pass stands = past_judged told files P (judged rows) (λ done. next rows) (tt, pass) (λ done good. stands)
 
@@ -70,7 +72,8 @@ module _ (stimulus : List ℕ) (width : ℕ) (check : RowCheck) (trace : List (L
   abbrev here : Files vocabulary
   here = (kinds.Stimulus, stimulus) ∷ []
 
-  pub keeps_rows : (files : Files vocabulary) (numbers : List ℕ) → IsOneOf files (kinds.Stimulus, stimulus) → IsOneOf numbers 5 → ChecksAmong check numbers → KeepsTo files here numbers (5 ∷ []) its_rows
+  pub keeps_rows : (files : Files vocabulary) (numbers : List ℕ) → IsOneOf files (kinds.Stimulus, stimulus) → IsOneOf numbers 5
+      → ChecksAmong check numbers → KeepsTo files here numbers (5 ∷ []) its_rows
   keeps_rows files numbers one five among = keeps_stage files here numbers (5 ∷ []) (rows_kind width) stimulus next one five
       (λ rows. keeps_checked written rows files here numbers (5 ∷ []) check among (inl refl, λ reason bad. inl (ap reason_status bad.1)))
 
@@ -79,12 +82,14 @@ module _ (stimulus : List ℕ) (width : ℕ) (check : RowCheck) (trace : List (L
     barred_rows numbers gone = barred_here told numbers (rows_kind width) stimulus next gone
 
     -- over every shelf, the work is the trace over some rows
-    some_rows : (one : Told) (rows : List (List Bool)) (did : CallWork) → IsDoneBy (IsSomeTrace width trace scripts) one (work rows) did → (these : List (List Bool)) × (did ≡ work these)
+    some_rows : (one : Told) (rows : List (List Bool)) (did : CallWork) → IsDoneBy (IsSomeTrace width trace scripts) one (work rows) did
+        → (these : List (List Bool)) × (did ≡ work these)
     some_rows untold rows did some = (some.0, some.2)
     some_rows absent rows did is = (rows, is)
     some_rows (held text) rows did is = (rows, is)
 
-    any_rows : (file : File) (name : List ℕ) (did : CallWork) → May told (ReadsAgainHere told file name did) its_rows → (rows : List (List Bool)) × (did ≡ work rows)
+    any_rows : (file : File) (name : List ℕ) (did : CallWork) → May told (ReadsAgainHere told file name did) its_rows
+        → (rows : List (List Bool)) × (did ≡ work rows)
     any_rows file name did (inl none) = absurd none
     any_rows file name did (inr (s, of, inl none)) = absurd none
     any_rows file name did (inr (s, of, inr (rows, are, is))) =
@@ -97,7 +102,9 @@ module _ (stimulus : List ℕ) (width : ℕ) (check : RowCheck) (trace : List (L
           let later = work_past told (rows_kind width) stimulus next s held_s did may in
           (later.0, later.1, held_work (told stimulus) s (IsSomeTrace width trace scripts) (work later.0) did held_s (checked_behind written later.0 told (WorksHere told did) (works_behind told 5 did) check later.2))
 
-      bad_by : (reason : Reason) → reason_status reason ≡ 5 → (IsBadStimulus width s reason ⊎ ((rows : List (List Bool)) × IsRowsOf width s rows × May told (RefusesHere reason) (next rows))) → IsBadStimulus width s reason
+      bad_by : (reason : Reason) → reason_status reason ≡ 5
+          → (IsBadStimulus width s reason ⊎ ((rows : List (List Bool)) × IsRowsOf width s rows × May told (RefusesHere reason) (next rows)))
+          → IsBadStimulus width s reason
       bad_by reason same (inl bad) = bad
       bad_by reason same (inr more) = absurd (checked_behind written more.0 told (RefusesHere reason) (refusal_behind told 5 reason same) check more.2)
 
@@ -106,12 +113,14 @@ module _ (stimulus : List ℕ) (width : ℕ) (check : RowCheck) (trace : List (L
 
       module _ (files : Files vocabulary) (one : IsOneOf files (kinds.Stimulus, stimulus)) where
         -- to where it works, and to where it refuses
-        to_trace : (What : CallWork → Type 0) (rows : List (List Bool)) → IsRowsOf width s rows → PassCheck check rows → What (work rows) → StandsAt told files (IsToWork told files What) its_rows
+        to_trace : (What : CallWork → Type 0) (rows : List (List Bool)) → IsRowsOf width s rows → PassCheck check rows → What (work rows)
+            → StandsAt told files (IsToWork told files What) its_rows
         to_trace What rows are pass what = past told files (IsToWork told files What) (rows_kind width) stimulus next s one held_s (rows, are)
             (λ these those. past_check written these told (IsToWork told files What) files check (subst (PassCheck check) (sym (same_rows width s these rows those are)) pass)
             ((one, s, held_s), subst (λ (so : List (List Bool)). What (work so)) (sym (same_rows width s these rows those are)) what))
 
-        to_bad_rows : (Why : Reason → Type 0) (reason : Reason) → IsBadStimulus width s reason → ((other : Reason) → IsBadStimulus width s other → Why other) → StandsAt told files (IsToRefuse Why) its_rows
+        to_bad_rows : (Why : Reason → Type 0) (reason : Reason) → IsBadStimulus width s reason
+            → ((other : Reason) → IsBadStimulus width s other → Why other) → StandsAt told files (IsToRefuse Why) its_rows
         to_bad_rows Why reason bad why = at_bad told files (rows_kind width) stimulus next s Why one held_s why (reason, bad)
 
 -- ---- a course that comes to them
@@ -124,9 +133,11 @@ pub record ComesToRows (subject : Subject) (check : subject.Thing → RowCheck) 
       → (its : subject.Thing) × ((texts : subject.Texts) → subject.Hold call texts → subject.Spells texts its)
       × (scripts : Scripts) × Uses scripts × May call.before.shelf.told P (checked_rows_course stimulus (subject.width its) (check its) (text its) scripts)
   pub comes : (P : Course vocabulary → Type 0) (texts : subject.Texts) (s : List ℕ) → IsReady call texts s → (its : subject.Thing) → subject.Spells texts its
-      → ((scripts : Scripts) → Uses scripts → StandsAt call.before.shelf.told files P (checked_rows_course stimulus (subject.width its) (check its) (text its) scripts)) → StandsAt call.before.shelf.told files P course
+      → ((scripts : Scripts) → Uses scripts → StandsAt call.before.shelf.told files P (checked_rows_course stimulus (subject.width its) (check its) (text its) scripts))
+      → StandsAt call.before.shelf.told files P course
   pub ready_held : (texts : subject.Texts) (s : List ℕ) → IsReady call texts s → call.before.shelf.told stimulus ≡ held s
-  pub passes : (texts : subject.Texts) (s : List ℕ) → IsReady call texts s → (its : subject.Thing) (rows : List (List Bool)) → AreSpelled subject texts s its rows → PassCheck (check its) rows
+  pub passes : (texts : subject.Texts) (s : List ℕ) → IsReady call texts s → (its : subject.Thing) (rows : List (List Bool))
+      → AreSpelled subject texts s its rows → PassCheck (check its) rows
   pub one : IsOneOf files (kinds.Stimulus, stimulus)
 
 module _ (subject : Subject) (check : subject.Thing → RowCheck) (text : TextOver subject.Thing) (stimulus : List ℕ) (course : Course vocabulary) (call : Call) (files : Files vocabulary) (numbers : List ℕ) (IsReady : Call → subject.Texts → List ℕ → Type 0) (Uses : Scripts → Type 0)
@@ -171,12 +182,14 @@ module _ (subject : Subject) (check : subject.Thing → RowCheck) (text : TextOv
         (later.0, later.1 texts hold.its_held, bad_rows stimulus (subject.width later.0) (check later.0) (text later.0) later.2 told s hold.stimulus_held reason same later.4)
 
   module _ (is : IsCallOf course call) (texts : subject.Texts) (s : List ℕ) (ready : IsReady call texts s) where
-    refuses : (thing : subject.Thing) (reason : Reason) → subject.Spells texts thing → IsBadStimulus (subject.width thing) s reason → StandsAt told files (IsToRefuse (Bad texts s)) course
+    refuses : (thing : subject.Thing) (reason : Reason) → subject.Spells texts thing → IsBadStimulus (subject.width thing) s reason
+        → StandsAt told files (IsToRefuse (Bad texts s)) course
     refuses thing reason of bad =
         its.comes (IsToRefuse (Bad texts s)) texts s ready thing of
         (λ scripts uses. to_bad_rows stimulus (subject.width thing) (check thing) (text thing) scripts told s (its.ready_held texts s ready) files its.one (Bad texts s) reason bad (λ other so. (thing, of, so)))
 
-  to_run : (run : Run subject text stimulus) → IsRun subject text stimulus IsReady call run → StandsAt told files (IsToWork told files (IsTraceOf subject text run.its run.rows Uses)) course
+  to_run : (run : Run subject text stimulus) → IsRun subject text stimulus IsReady call run
+      → StandsAt told files (IsToWork told files (IsTraceOf subject text run.its run.rows Uses)) course
   to_run run is_run =
       its.comes (IsToWork told files (IsTraceOf subject text run.its run.rows Uses)) run.texts run.s is_run.ready run.its is_run.are.spells
       (λ scripts uses. to_trace stimulus (subject.width run.its) (check run.its) (text run.its) scripts told run.s (its.ready_held run.texts run.s is_run.ready) files its.one (IsTraceOf subject text run.its run.rows Uses) run.rows is_run.are.rows_are

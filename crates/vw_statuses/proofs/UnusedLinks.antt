@@ -33,22 +33,26 @@ rows_unused : (stimulus : List ℕ) (width : ℕ) (trace : List (List Bool) → 
     → UsesNoLinks (rows_course stimulus width trace scripts)
 rows_unused stimulus width trace scripts none = λ text rows good. trace_unused stimulus width trace scripts none rows
 
-design_unused : (probes : List ProbeWord) (design stimulus : List ℕ) (text : TextOver WatchedDesign) → UsesNoLinks (over_design_course probes design stimulus text)
+design_unused : (probes : List ProbeWord) (design stimulus : List ℕ) (text : TextOver WatchedDesign)
+    → UsesNoLinks (over_design_course probes design stimulus text)
 design_unused probes design stimulus text = λ d watched good. rows_unused stimulus _ (text watched) no_links (λ rows. refl)
 
 -- a planned board, whatever comes behind it
-ready_unused : (probes : List ProbeWord) (design board : List ℕ) (by : PlanBy) (rest : Rest) → ((ordered : Ordered) (board : Board) (plan : Plan) → UsesNoLinks (rest ordered board plan))
+ready_unused : (probes : List ProbeWord) (design board : List ℕ) (by : PlanBy) (rest : Rest)
+    → ((ordered : Ordered) (board : Board) (plan : Plan) → UsesNoLinks (rest ordered board plan))
     → UsesNoLinks (ready_course probes design board by rest)
 ready_unused probes design board made_here rest own = λ d ordered good b its fine plan is. own ordered its plan
 ready_unused probes design board (of_file name) rest own = λ d ordered good b its fine p plan is done sound. own ordered its plan
 ready_unused probes design board (for_chips name) rest own = λ d ordered good b its fine c chips are plan is. own ordered its plan
 
-over_rows_unused : (probes : List ProbeWord) (design board : List ℕ) (by : PlanBy) (stimulus : List ℕ) (text : TextOver Ordered) (workers : ℕ) (unknown : Bool) → ltb 1 workers ≡ false
+over_rows_unused : (probes : List ProbeWord) (design board : List ℕ) (by : PlanBy) (stimulus : List ℕ) (text : TextOver Ordered) (workers : ℕ) (unknown : Bool)
+    → ltb 1 workers ≡ false
     → UsesNoLinks (over_rows_course probes design board by stimulus text workers unknown)
 over_rows_unused probes design board by stimulus text workers unknown few =
     ready_unused probes design board by _ (λ ordered its plan. rows_unused stimulus ordered.flat.inputs (text ordered) _ (λ rows. none_used workers few _))
 
-resume_unused : (state stimulus : List ℕ) (workers : ℕ) → ltb 1 workers ≡ false → (ordered : Ordered) (board : Board) (plan : Plan) → UsesNoLinks (resume_rest state stimulus workers ordered board plan)
+resume_unused : (state stimulus : List ℕ) (workers : ℕ) → ltb 1 workers ≡ false → (ordered : Ordered) (board : Board) (plan : Plan)
+    → UsesNoLinks (resume_rest state stimulus workers ordered board plan)
 resume_unused state stimulus workers few ordered board plan =
     λ t its good s rows fine done fit. trace_unused stimulus ordered.flat.inputs _ _ (λ rows. none_used workers few _) rows
 
@@ -68,5 +72,6 @@ course_unused words.help none = refl
 course_unused words.version none = refl
 course_unused (words.nothing place) none = tt
 
-pub unused_links_stay : (spelled : Spelled) (call : Call) → uses_links spelled ≡ false → IsCallOf (course_of spelled) call → call.after.links ≡ call.before.links
+pub unused_links_stay : (spelled : Spelled) (call : Call) → uses_links spelled ≡ false → IsCallOf (course_of spelled) call
+    → call.after.links ≡ call.before.links
 unused_links_stay spelled call none is = links_stay vocabulary call.before call.after (course_of spelled) is.answer (course_unused spelled none) is.follows

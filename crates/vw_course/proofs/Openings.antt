@@ -1,4 +1,4 @@
--- Fronts of courses: the files that are read and the things that are made before the rest, which goes on by what they give.
+-- Openings of courses: the files that are read and the things that are made before the rest, which goes on by what they give.
 use Rattle.std.proofs.Common.{◌≡◌, ◌<◌, ◌⊎◌, ℕ, List, [], ◌∷◌, ◌++◌, inl, refl, sym, subst, ⊎_elim}
 use Rattle.vw_outside.specs.Told.{Told, held, IsTextOf}
 use Rattle.vw_course.specs.Vocabulary.{Vocabulary, IsNoStop}
@@ -16,18 +16,21 @@ use Rattle.vw_course.proofs.StageLaws.{IsBehind, past, at_bad, at_absent, refuse
 use Rattle.vw_course.proofs.BarredLaws.{IsBarred, barred_here, barred_later, call_barred}
 use Rattle.vw_course.proofs.CarriedOut.{completes, done_as, write_as, memory_as}
 
--- a front reads some of these files and refuses with some of these statuses, and the course goes on by something that it may
+-- an opening reads some of these files and refuses with some of these statuses, and the course goes on by something that it may
 -- have. Texts that are held spell what it has, and where they have such a thing, it comes to one
-pub record IsFront {V : Vocabulary} (told : List ℕ → Told) (files : Files V) (numbers : List ℕ) {A T : Type 0} (front : (A → Course V) → Course V) (Has : A → Type 0) (Hold Have : T → Type 0) (Spells : T → A → Type 0) : Type 1 where
-  pub keeps : (anew : Files V) (more broken : List ℕ) → AreAmong numbers more → (next : A → Course V) → ((x : A) → KeepsTo files anew more broken (next x)) → KeepsTo files anew more broken (front next)
-  pub behind : (number : ℕ) (P : Course V → Type 0) → IsBehind number P → IsNoneOf numbers number → (next : A → Course V) → May told P (front next) → (x : A) × Has x × May told P (next x)
+pub record IsOpening {V : Vocabulary} (told : List ℕ → Told) (files : Files V) (numbers : List ℕ) {A T : Type 0} (opening : (A → Course V) → Course V) (Has : A → Type 0) (Hold Have : T → Type 0) (Spells : T → A → Type 0) : Type 1 where
+  pub keeps : (anew : Files V) (more broken : List ℕ) → AreAmong numbers more → (next : A → Course V)
+      → ((x : A) → KeepsTo files anew more broken (next x)) → KeepsTo files anew more broken (opening next)
+  pub behind : (number : ℕ) (P : Course V → Type 0) → IsBehind number P → IsNoneOf numbers number → (next : A → Course V)
+      → May told P (opening next) → (x : A) × Has x × May told P (next x)
   pub spelled : (texts : T) → Hold texts → (x : A) → Has x → Spells texts x
-  pub comes : (P : Course V → Type 0) (texts : T) → Hold texts → Have texts → (next : A → Course V) → ((x : A) → Spells texts x → StandsAt told files P (next x)) → StandsAt told files P (front next)
-  pub barred : (all : List ℕ) → AreAmong numbers all → (next : A → Course V) → ((x : A) → IsBarred told all (next x)) → IsBarred told all (front next)
+  pub comes : (P : Course V → Type 0) (texts : T) → Hold texts → Have texts → (next : A → Course V)
+      → ((x : A) → Spells texts x → StandsAt told files P (next x)) → StandsAt told files P (opening next)
+  pub barred : (all : List ℕ) → AreAmong numbers all → (next : A → Course V) → ((x : A) → IsBarred told all (next x)) → IsBarred told all (opening next)
 
 -- nothing before it
-pub no_front : {V : Vocabulary} (told : List ℕ → Told) (files : Files V) → IsFront {V = V} told files [] {A = Unit {0}} {T = Unit {0}} (λ next. next tt) (λ x. Unit {0}) (λ t. Unit {0}) (λ t. Unit {0}) (λ t x. Unit {0})
-no_front told files = record {
+pub no_opening : {V : Vocabulary} (told : List ℕ → Told) (files : Files V) → IsOpening {V = V} told files [] {A = Unit {0}} {T = Unit {0}} (λ next. next tt) (λ x. Unit {0}) (λ t. Unit {0}) (λ t. Unit {0}) (λ t x. Unit {0})
+no_opening told files = record {
   keeps = λ anew more broken all next later. later tt;
   behind = λ number P passes none next may. (tt, tt, may);
   spelled = λ texts hold x has. tt;
@@ -41,9 +44,9 @@ MayHave told kind name x = (text : List ℕ) × IsTextOf (told name) text × (ki
 
 -- a file
 module _ {V : Vocabulary} (told : List ℕ → Told) (files : Files V) {A : Type 0} (kind : Kind V A) (name : List ℕ) (at : IsOneOf files (kind.file, name)) where
-  pub file_front : IsFront told files (kind.number ∷ []) {A = A} {T = List ℕ} (stage kind name) (MayHave told kind name)
+  pub file_opening : IsOpening told files (kind.number ∷ []) {A = A} {T = List ℕ} (stage kind name) (MayHave told kind name)
       (λ text. told name ≡ held text) (λ text. (x : A) × (kind.judged text).Good x) (λ text. (kind.judged text).Good)
-  file_front = record {
+  file_opening = record {
     keeps = λ anew more broken all next later. keeps_stage files anew more broken kind name next at (all kind.number (inl refl)) later;
     behind = λ number P passes none next may.
         let one = stage_behind told number P passes kind name next (λ is. none.0 (sym is)) may in (one.2, (one.0, one.1, one.3), one.4);
@@ -54,9 +57,9 @@ module _ {V : Vocabulary} (told : List ℕ → Told) (files : Files V) {A : Type
 
 -- one behind the other, which goes by what the first has
 module _ {V : Vocabulary} (told : List ℕ → Told) (files : Files V) (numbers more : List ℕ) {A B T U : Type 0}
-    (front : (A → Course V) → Course V) (Has : A → Type 0) (Hold Have : T → Type 0) (Spells : T → A → Type 0) (its : IsFront told files numbers front Has Hold Have Spells)
+    (opening : (A → Course V) → Course V) (Has : A → Type 0) (Hold Have : T → Type 0) (Spells : T → A → Type 0) (its : IsOpening told files numbers opening Has Hold Have Spells)
     (inner : A → (B → Course V) → Course V) (HasThen : A → B → Type 0) (HoldThen : U → Type 0) (HaveThen : A → U → Type 0) (SpellsThen : A → U → B → Type 0)
-    (then : (x : A) → IsFront told files more (inner x) (HasThen x) HoldThen (HaveThen x) (SpellsThen x)) where
+    (then : (x : A) → IsOpening told files more (inner x) (HasThen x) HoldThen (HaveThen x) (SpellsThen x)) where
   none_first : (these those : List ℕ) (number : ℕ) → IsNoneOf (these ++ those) number → IsNoneOf these number
   none_first [] those number none = tt
   none_first (one ∷ these) those number none = (none.0, none_first these those number none.1)
@@ -65,9 +68,9 @@ module _ {V : Vocabulary} (told : List ℕ → Told) (files : Files V) (numbers 
   none_last [] those number none = none
   none_last (one ∷ these) those number none = none_last these those number none.1
 
-  pub both_fronts : IsFront told files (numbers ++ more) {A = A × B} {T = T × U} (λ next. front (λ x. inner x (λ y. next (x, y)))) (λ p. Has p.0 × HasThen p.0 p.1)
+  pub both_openings : IsOpening told files (numbers ++ more) {A = A × B} {T = T × U} (λ next. opening (λ x. inner x (λ y. next (x, y)))) (λ p. Has p.0 × HasThen p.0 p.1)
       (λ t. Hold t.0 × HoldThen t.1) (λ t. Have t.0 × ((x : A) → Spells t.0 x → HaveThen x t.1)) (λ t p. Spells t.0 p.0 × SpellsThen p.0 t.1 p.1)
-  both_fronts = record {
+  both_openings = record {
     keeps = λ anew all broken among next later. its.keeps anew all broken (λ n one. among n (among_front numbers more n one)) (λ x. inner x (λ y. next (x, y)))
         (λ x. (then x).keeps anew all broken (λ n one. among n (among_back numbers more n one)) (λ y. next (x, y)) (λ y. later (x, y)));
     behind = λ number P passes none next may.
@@ -83,12 +86,12 @@ module _ {V : Vocabulary} (told : List ℕ → Told) (files : Files V) (numbers 
 
 -- the same in other words
 module _ {V : Vocabulary} (told : List ℕ → Told) (files : Files V) (numbers : List ℕ) {A B T U : Type 0}
-    (front : (A → Course V) → Course V) (Has : A → Type 0) (Hold Have : T → Type 0) (Spells : T → A → Type 0) (its : IsFront told files numbers front Has Hold Have Spells)
+    (opening : (A → Course V) → Course V) (Has : A → Type 0) (Hold Have : T → Type 0) (Spells : T → A → Type 0) (its : IsOpening told files numbers opening Has Hold Have Spells)
     (turned : A → B) (texts : U → T) (HasAs : B → Type 0) (HoldAs HaveAs : U → Type 0) (SpellsAs : U → B → Type 0)
     (has : (x : A) → Has x → HasAs (turned x)) (hold : (u : U) → HoldAs u → Hold (texts u)) (have : (u : U) → HoldAs u → HaveAs u → Have (texts u))
     (spells : (u : U) (x : A) → Spells (texts u) x → SpellsAs u (turned x)) (spelled : (u : U) → HoldAs u → (y : B) → HasAs y → SpellsAs u y) where
-  pub front_as : IsFront told files numbers (λ next. front (λ x. next (turned x))) HasAs HoldAs HaveAs SpellsAs
-  front_as = record {
+  pub opening_as : IsOpening told files numbers (λ next. opening (λ x. next (turned x))) HasAs HoldAs HaveAs SpellsAs
+  opening_as = record {
     keeps = λ anew more broken all next later. its.keeps anew more broken all (λ x. next (turned x)) (λ x. later (turned x));
     behind = λ number P passes none next may. let later = its.behind number P passes none (λ x. next (turned x)) may in (turned later.0, has later.0 later.1, later.2);
     spelled = spelled;
@@ -96,15 +99,15 @@ module _ {V : Vocabulary} (told : List ℕ → Told) (files : Files V) (numbers 
     barred = λ all among next later. its.barred all among (λ x. next (turned x)) (λ x. later (turned x));
   }
 
--- ---- a file behind a front
+-- ---- a file behind an opening
 
-module _ {V : Vocabulary} (call : SeenCall V.Word) (files : Files V) (numbers : List ℕ) {A T : Type 0} (front : (A → Course V) → Course V) (Has : A → Type 0) (Hold Have : T → Type 0) (Spells : T → A → Type 0)
-    (its : IsFront call.before.shelf.told files numbers front Has Hold Have Spells) {B : Type 0} (kind : Kind V B) (name : List ℕ) (next : A → B → Course V) (at : IsOneOf files (kind.file, name)) where
+module _ {V : Vocabulary} (call : SeenCall V.Word) (files : Files V) (numbers : List ℕ) {A T : Type 0} (opening : (A → Course V) → Course V) (Has : A → Type 0) (Hold Have : T → Type 0) (Spells : T → A → Type 0)
+    (its : IsOpening call.before.shelf.told files numbers opening Has Hold Have Spells) {B : Type 0} (kind : Kind V B) (name : List ℕ) (next : A → B → Course V) (at : IsOneOf files (kind.file, name)) where
   abbrev told : List ℕ → Told
   told = call.before.shelf.told
 
   abbrev course : Course V
-  course = front (λ x. stage kind name (next x))
+  course = opening (λ x. stage kind name (next x))
 
   abbrev Bad : List ℕ → V.Reason → Type 0
   Bad text = (kind.judged text).Bad
@@ -117,7 +120,7 @@ module _ {V : Vocabulary} (call : SeenCall V.Word) (files : Files V) (numbers : 
       (λ (more : (y : B) × (kind.judged text).Good y × May told (RefusesHere reason) (next later.0 y)). absurd (never later.0 more.0 reason same more.2))
       (refused_past told kind name (next later.0) text holds reason later.2)
 
-  -- its table, where neither the front nor what comes behind it has its status
+  -- its table, where neither the opening nor what comes behind it has its status
   pub file_table : IsCallOf course call → 0 < kind.number → IsNoStop kind.number → IsNoneOf numbers kind.number
       → ((x : A) (y : B) (reason : V.Reason) → V.status reason ≡ kind.number → May told (RefusesHere reason) (next x y) → ⊥)
       → ((reason : V.Reason) (did : Work V.Word) → V.status reason ≡ kind.number → May told (BreaksHere told reason did) course → ⊥)
