@@ -14,14 +14,16 @@ use Rattle.vw_design.proofs.Names.{same_name}
 
 module _ (design : Design) (among : Word → Bool) (rank : Word → ℕ) (ranking : IsRanking design among rank) where
   -- what an item places has a smaller rank
-  by_item : (limit : ℕ) (next : Word) (item : Item) → is_below among rank limit item ≡ true → names_model next item ≡ true → (among next ≡ true) × (rank next < limit)
+  by_item : (limit : ℕ) (next : Word) (item : Item) → is_below among rank limit item ≡ true → names_model next item ≡ true
+      → (among next ≡ true) × (rank next < limit)
   by_item limit next (Names line ins out cover) below names = absurd (true≢false (sym names))
   by_item limit next (Latch line d q edge control init) below names = absurd (true≢false (sym names))
   by_item limit next (Sub line model binds) below names =
       let parts = and_parts (among model) (nat_lt (rank model) limit) below in
       subst (λ (w : Word). (among w ≡ true) × (rank w < limit)) (same_name model next names) (parts.0, ltb-true (rank model) limit parts.1)
 
-  by_model : (limit : ℕ) (next : Word) (model : Option Model) → list_all (is_below among rank limit) (items_of model) ≡ true → model_places model next ≡ true → (among next ≡ true) × (rank next < limit)
+  by_model : (limit : ℕ) (next : Word) (model : Option Model) → list_all (is_below among rank limit) (items_of model) ≡ true
+      → model_places model next ≡ true → (among next ≡ true) × (rank next < limit)
   by_model limit next None below places = absurd (true≢false (sym places))
   by_model limit next (Some model) below places =
       let item = from-any (names_model next) model.items places in

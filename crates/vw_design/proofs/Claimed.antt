@@ -23,18 +23,21 @@ IsClaim design model name (driven number) = (item : Item) × (slice_get model.it
 IsClaim design model name (bound place formal) = (placed : Model) × (model_placed design place model ≡ Some placed) × (has_name placed.outputs formal ≡ true)
 
 -- by cases on the test of an output
-driven_by : (design : Design) (model : Model) (name : Word) (entry : Numbered) → IsEntry model.items entry → is_cell entry.item ≡ true → (b : Bool) (claim : Claim)
+driven_by : (design : Design) (model : Model) (name : Word) (entry : Numbered) → IsEntry model.items entry → is_cell entry.item ≡ true
+    → (b : Bool) (claim : Claim)
     → Has claim (if b then driven entry.number ∷ [] else []) → IsClaim design model name claim
 driven_by design model name entry is cell true claim has =
     ⊎_elim (λ same. subst (IsClaim design model name) same (entry.item, is.item, cell)) (λ none. absurd none) has
 driven_by design model name entry is cell false claim has = absurd has
 
 -- the model of a name, where it has an output
-has_outputs : (found : Option Model) (formal : Word) → has_name (model_outputs found) formal ≡ true → (placed : Model) × (found ≡ Some placed) × (has_name placed.outputs formal ≡ true)
+has_outputs : (found : Option Model) (formal : Word) → has_name (model_outputs found) formal ≡ true
+    → (placed : Model) × (found ≡ Some placed) × (has_name placed.outputs formal ≡ true)
 has_outputs None formal has = absurd (true≢false (sym has))
 has_outputs (Some placed) formal has = (placed, refl, has)
 
-bound_by : (design : Design) (model : Model) (name : Word) (before : ℕ) (placing : Placing) → slice_get (placings model.items) before ≡ Some placing → (bind : Bind) (claim : Claim)
+bound_by : (design : Design) (model : Model) (name : Word) (before : ℕ) (placing : Placing)
+    → slice_get (placings model.items) before ≡ Some placing → (bind : Bind) (claim : Claim)
     → (b : Bool) → (bytes_eq bind.actual name && has_name (model_outputs (model_named design.models placing.model)) bind.formal) ≡ b
     → (if b then Some (bound (suc before) bind.formal) else None) ≡ Some claim → IsClaim design model name claim
 bound_by design model name before placing at bind claim false is gives = absurd (none-some claim gives)
@@ -53,7 +56,8 @@ item_claim design model name entry (Sub line placed binds) same is claim has =
     let from = from-filter_map (bind_claim outputs (suc entry.before) name) claim binds has in
     bound_by design model name entry.before (record { model = placed; binds = binds }) (is.placing line placed binds same) from.0 claim (bytes_eq from.0.actual name && has_name outputs from.0.formal) refl from.2
 
-port_claim : (design : Design) (model : Model) (name : Word) (claim : Claim) (b : Bool) → is_port model name ≡ b → Has claim (if b then port ∷ [] else []) → IsClaim design model name claim
+port_claim : (design : Design) (model : Model) (name : Word) (claim : Claim) (b : Bool) → is_port model name ≡ b
+    → Has claim (if b then port ∷ [] else []) → IsClaim design model name claim
 port_claim design model name claim true is has = ⊎_elim (λ same. subst (IsClaim design model name) same is) (λ none. absurd none) has
 port_claim design model name claim false is has = absurd has
 

@@ -21,19 +21,22 @@ use Rattle.vw_design.proofs.ShallowDesigns.{faultless_shallow, faultless_one_way
 use Rattle.vw_design.proofs.TurnsEnd.{driver-turn}
 
 -- the first of some claims
-pub claim_first : (design : Design) (path : Path) (model : Model) (name : Word) (claim : Claim) (others : List Claim) → model_at design path ≡ Some model → claims design model name ≡ claim ∷ others
+pub claim_first : (design : Design) (path : Path) (model : Model) (name : Word) (claim : Claim) (others : List Claim)
+    → model_at design path ≡ Some model → claims design model name ≡ claim ∷ others
     → first_claim design (model_at design path) name ≡ Some claim
 claim_first design path model name claim others stands are = ap (λ (m : Option Model). first_claim design m name) stands ∙ ap (λ (cs : List Claim). slice_get cs 0) are
 
 -- a port is claimed first as one, whatever else claims it
-pub port_first : (design : Design) (path : Path) (model : Model) (name : Word) → model_at design path ≡ Some model → is_port model name ≡ true → first_claim design (model_at design path) name ≡ Some port
+pub port_first : (design : Design) (path : Path) (model : Model) (name : Word) → model_at design path ≡ Some model
+    → is_port model name ≡ true → first_claim design (model_at design path) name ≡ Some port
 port_first design path model name stands is =
     ap (λ (m : Option Model). first_claim design m name) stands
     ∙ ap (λ (b : Bool). slice_get ((if b then port ∷ [] else []) ++ flat_map (λ (e : Numbered). item_claims design name e.number e.before e.item) (numbered 0 0 model.items)) 0) is
 
 module _ (design : Design) where
   -- a net that an item is the first to claim has that item as driver
-  pub driven_driver : (path : Path) (name : Word) (number : ℕ) → first_claim design (model_at design path) name ≡ Some (driven number) → driver design path name ≡ Some (at_cell path number)
+  pub driven_driver : (path : Path) (name : Word) (number : ℕ) → first_claim design (model_at design path) name ≡ Some (driven number)
+      → driver design path name ≡ Some (at_cell path number)
   unfolding driver
   driven_driver path name number is = ap (λ (c : Option Claim). follow_turn (source_after design 127) (turn_by design path name c)) is
 
@@ -56,7 +59,8 @@ module _ (design : Design) where
         ∙ ap (λ (c : Option Claim). follow_turn (driver design) (turn_by design path name c)) is
 
     -- a port of a placed model has the driver of its actual, in the instance above
-    pub port_driver : (place : ℕ) (path : Path) (name actual : Word) → first_claim design (model_at design (place ∷ path)) name ≡ Some port → actual_of design place path name ≡ Some actual
+    pub port_driver : (place : ℕ) (path : Path) (name actual : Word) → first_claim design (model_at design (place ∷ path)) name ≡ Some port
+        → actual_of design place path name ≡ Some actual
         → driver design (place ∷ path) name ≡ driver design path actual
     port_driver place path name actual is above =
         one_turn (place ∷ path) name port is ∙ ap (λ (found : Option Word). follow_turn (driver design) (turn_up path found)) above
@@ -67,7 +71,8 @@ module _ (design : Design) where
     bound_driver path name place formal is = one_turn path name (bound place formal) is
 
 -- where formals differ, the actual of a formal is that of its binding
-pub actual_is : (binds : List Bind) (bind : Bind) (name : Word) → are_distinct (map (λ b. b.formal) binds) ≡ true → Has bind binds → bind.formal ≡ name → actual_among binds name ≡ Some bind.actual
+pub actual_is : (binds : List Bind) (bind : Bind) (name : Word) → are_distinct (map (λ b. b.formal) binds) ≡ true → Has bind binds
+    → bind.formal ≡ name → actual_among binds name ≡ Some bind.actual
 actual_is [] bind name distinct has is = absurd has
 actual_is (first ∷ binds) bind name distinct has is =
     let formals = map (λ (b : Bind). b.formal) binds in
@@ -97,19 +102,22 @@ actual_at design path model before placing bind stands at distinct has =
 
 module _ (design : Design) (path : Path) (model : Model) (stands : model_at design path ≡ Some model) where
   -- the driver of a name that a gate or latch of an instance drives
-  pub cell_driver : are_distinct (claimed_names design model) ≡ true → (number : ℕ) (item : Item) → slice_get model.items number ≡ Some item → is_cell item ≡ true
+  pub cell_driver : are_distinct (claimed_names design model) ≡ true → (number : ℕ) (item : Item) → slice_get model.items number ≡ Some item
+      → is_cell item ≡ true
       → driver design path (driven_name item) ≡ Some (at_cell path number)
   cell_driver all number item at cell =
       driven_driver design path (driven_name item) number (claim_first design path model (driven_name item) (driven number) [] stands (driven_claims design model all number item at cell))
 
   -- so it is for each item of a model that places none, where its inputs, clocks and driven names are different
-  pub leaf_driver : IsLeaf model → are_distinct ((model.inputs ++ model.clocks) ++ map driven_name model.items) ≡ true → (number : ℕ) (item : Item) → slice_get model.items number ≡ Some item
+  pub leaf_driver : IsLeaf model → are_distinct ((model.inputs ++ model.clocks) ++ map driven_name model.items) ≡ true
+      → (number : ℕ) (item : Item) → slice_get model.items number ≡ Some item
       → driver design path (driven_name item) ≡ Some (at_cell path number)
   leaf_driver leaf all number item at =
       cell_driver (ap are_distinct (leaf_claims design model leaf) ∙ all) number item at (all-Has is_cell item model.items leaf (Has-at item model.items number at))
 
   -- the driver of an actual that is bound to an output of a placed model
-  pub output_driver : HasNoModelFault design → are_distinct (claimed_names design model) ≡ true → (before : ℕ) (placing : Placing) → slice_get (placings model.items) before ≡ Some placing
+  pub output_driver : HasNoModelFault design → are_distinct (claimed_names design model) ≡ true → (before : ℕ) (placing : Placing)
+      → slice_get (placings model.items) before ≡ Some placing
       → (bind : Bind) → Has bind placing.binds → has_name (model_outputs (model_named design.models placing.model)) bind.formal ≡ true
       → driver design path bind.actual ≡ driver design (suc before ∷ path) bind.formal
   output_driver faultless all before placing at bind has output =

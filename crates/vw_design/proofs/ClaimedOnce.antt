@@ -36,10 +36,12 @@ times_append name [] other = omega arith
 times_append name (first ∷ one) other = omega (arith, times_append name one other)
 
 -- an item has as many claims on a name as it claims it
-bind_times : (design : Design) (outputs : List Word) (place : ℕ) (name : Word) (binds : List Bind) → length (filter_map (bind_claim outputs place name) binds) ≡ times_named name (filter_map (bound_actual outputs) binds)
+bind_times : (design : Design) (outputs : List Word) (place : ℕ) (name : Word) (binds : List Bind)
+    → length (filter_map (bind_claim outputs place name) binds) ≡ times_named name (filter_map (bound_actual outputs) binds)
 bind_times design outputs place name [] = refl
 bind_times design outputs place name (bind ∷ binds) = by (bytes_eq bind.actual name) refl (has_name outputs bind.formal) (bind_times design outputs place name binds) where
-  by : (same : Bool) → bytes_eq bind.actual name ≡ same → (output : Bool) → length (filter_map (bind_claim outputs place name) binds) ≡ times_named name (filter_map (bound_actual outputs) binds)
+  by : (same : Bool) → bytes_eq bind.actual name ≡ same → (output : Bool)
+      → length (filter_map (bind_claim outputs place name) binds) ≡ times_named name (filter_map (bound_actual outputs) binds)
       → length (cons_option (if same && output then Some (bound place bind.formal) else None) (filter_map (bind_claim outputs place name) binds))
       ≡ times_named name (cons_option (if output then Some bind.actual else None) (filter_map (bound_actual outputs) binds))
   by true is true rest = omega (arith, rest, ap one_if is)
@@ -47,7 +49,8 @@ bind_times design outputs place name (bind ∷ binds) = by (bytes_eq bind.actual
   by false is true rest = omega (arith, rest, ap one_if is)
   by false is false rest = rest
 
-item_times : (design : Design) (name : Word) (number before : ℕ) (item : Item) → length (item_claims design name number before item) ≡ times_named name (claimed_by design item)
+item_times : (design : Design) (name : Word) (number before : ℕ) (item : Item)
+    → length (item_claims design name number before item) ≡ times_named name (claimed_by design item)
 item_times design name number before (Names line ins out cover) = by (bytes_eq out name) where
   by : (b : Bool) → length (if b then driven number ∷ [] else []) ≡ one_if b + 0
   by true = omega arith
@@ -94,7 +97,8 @@ none_again name before [] none = by (has_name before name) where
   by true = omega arith
   by false = omega arith
 none_again name before (first ∷ names) none = by (has_name before first) refl none (none_again name (first ∷ before) names) where
-  further : (same had : Bool) → bytes_eq first name ≡ same → (same ≡ true → had ≡ false) → one_if (same || had) + times_named name names ≤ 1 → one_if had + (one_if same + times_named name names) ≤ 1
+  further : (same had : Bool) → bytes_eq first name ≡ same → (same ≡ true → had ≡ false) → one_if (same || had) + times_named name names ≤ 1
+      → one_if had + (one_if same + times_named name names) ≤ 1
   further true true is fresh rest = absurd (true≢false (fresh refl))
   further true false is fresh rest = omega (arith, rest)
   further false had is fresh rest = omega (arith, rest)
@@ -130,7 +134,8 @@ port_times model name = by (is_port model name) ∙ ap one_if (sym (list_any-app
   by false = refl
 
 -- as many claims as a port, and what the items claim
-pub claims_times : (design : Design) (model : Model) (name : Word) → length (claims design model name) ≡ one_if (has_name (model.inputs ++ model.clocks) name) + times_named name (flat_map (claimed_by design) model.items)
+pub claims_times : (design : Design) (model : Model) (name : Word)
+    → length (claims design model name) ≡ one_if (has_name (model.inputs ++ model.clocks) name) + times_named name (flat_map (claimed_by design) model.items)
 claims_times design model name =
     let ports = if is_port model name then port ∷ [] else [] in
     let rest = flat_map (λ (entry : Numbered). item_claims design name entry.number entry.before entry.item) (numbered 0 0 model.items) in
@@ -164,7 +169,9 @@ module _ (design : Design) (name : Word) where
       by (has_name done name) (has_name (claimed_by design item) name) refl
       (none_again name done (claimed_by design item) here) (subst (λ (b : Bool). one_if b + times_named name (flat_map (claimed_by design) items) ≤ 1) had rest)
     where
-      by : (before now : Bool) → has_name (claimed_by design item) name ≡ now → one_if before + times_named name (claimed_by design item) ≤ 1 → one_if (before || now) + times_named name (flat_map (claimed_by design) items) ≤ 1
+      by : (before now : Bool) → has_name (claimed_by design item) name ≡ now
+          → one_if before + times_named name (claimed_by design item) ≤ 1
+          → one_if (before || now) + times_named name (flat_map (claimed_by design) items) ≤ 1
           → one_if before + times_named name (flat_map (claimed_by design) (item ∷ items)) ≤ 1
       by true now is here rest = omega (arith, here, rest, times_append name (claimed_by design item) (flat_map (claimed_by design) items))
       by false true is here rest = omega (arith, here, rest, times_append name (claimed_by design item) (flat_map (claimed_by design) items))
@@ -172,7 +179,8 @@ module _ (design : Design) (name : Word) where
           omega (arith, rest, times_has name (claimed_by design item) is, times_append name (claimed_by design item) (flat_map (claimed_by design) items))
 
 -- an item of an instance that claims nothing again, where no claim is a second one
-none_at : (design : Design) → IsAccepted design → (path : Path) (model : Model) → model_at design path ≡ Some model → (k : ℕ) (item : Item) → slice_get model.items k ≡ Some item
+none_at : (design : Design) → IsAccepted design → (path : Path) (model : Model) → model_at design path ≡ Some model → (k : ℕ) (item : Item)
+    → slice_get model.items k ≡ Some item
     → first_again (claimed_before design (Some model) k) (claimed_by design item) ≡ None
 none_at design accepted path model stands k item at =
     let here : item_at design path k ≡ Some item = ap (λ (m : Option Model). slice_get (items_of m) k) stands ∙ at in
@@ -188,7 +196,8 @@ none_at design accepted path model stands k item at =
     nothing path (Some name) none = absurd (none-some (net_at path name) (sym none))
 
 -- no net has two claims
-pub claimed_once : (design : Design) → IsAccepted design → (path : Path) (model : Model) → model_at design path ≡ Some model → (name : Word) → length (claims design model name) ≤ 1
+pub claimed_once : (design : Design) → IsAccepted design → (path : Path) (model : Model) → model_at design path ≡ Some model → (name : Word)
+    → length (claims design model name) ≤ 1
 claimed_once design accepted path model stands name =
     let counted = few design name (model.inputs ++ model.clocks) [] model.items (none_at design accepted path model stands) in
     let none : has_name ((model.inputs ++ model.clocks) ++ []) name ≡ has_name (model.inputs ++ model.clocks) name = ap (λ (list : List Word). has_name list name) (append-nil (model.inputs ++ model.clocks)) in
@@ -201,7 +210,8 @@ cut_at {A} (y ∷ ys) zero x at = ap (λ (z : A). z ∷ ys) (same_Some y x at)
 cut_at {A} (y ∷ ys) (suc k) x at = ap (λ (zs : List A). y ∷ zs) (cut_at ys k x at)
 
 -- what an item claims again has two claims
-twice : (design : Design) (model : Model) (k : ℕ) (item : Item) → slice_get model.items k ≡ Some item → (name : Word) → first_again (claimed_before design (Some model) k) (claimed_by design item) ≡ Some name
+twice : (design : Design) (model : Model) (k : ℕ) (item : Item) → slice_get model.items k ≡ Some item → (name : Word)
+    → first_again (claimed_before design (Some model) k) (claimed_by design item) ≡ Some name
     → 2 ≤ length (claims design model name)
 twice design model k item at name again =
     let ports = model.inputs ++ model.clocks in
@@ -227,7 +237,8 @@ twice design model k item at name again =
     by false right is at_least = omega (arith, ap one_if is, at_least)
 
 -- the net of a second claim has two
-pub claimed_twice : (design : Design) (net : Net) → two_drivers design ≡ Some net → (model : Model) × (model_at design net.path ≡ Some model) × (2 ≤ length (claims design model net.name))
+pub claimed_twice : (design : Design) (net : Net) → two_drivers design ≡ Some net
+    → (model : Model) × (model_at design net.path ≡ Some model) × (2 ≤ length (claims design model net.name))
 claimed_twice design net found =
     let site = from-found (claimed_again design) net (sites design) found in
     by site.0 (site_item design site.0 site.1) (model_at design site.0.path) refl
@@ -235,7 +246,8 @@ claimed_twice design net found =
   where
     by : (site : Site) → item_at design site.path site.number ≡ Some site.item → (found : Option Model) → model_at design site.path ≡ found
         → (again : Option Word) → first_again (claimed_before design (model_at design site.path) site.number) (claimed_by design site.item) ≡ again
-        → option_map (net_at site.path) again ≡ Some net → (model : Model) × (model_at design net.path ≡ Some model) × (2 ≤ length (claims design model net.name))
+        → option_map (net_at site.path) again ≡ Some net
+        → (model : Model) × (model_at design net.path ≡ Some model) × (2 ≤ length (claims design model net.name))
     by site item found stands None is net_is = absurd (none-some net net_is)
     by site item None stands (Some name) is net_is = absurd (none-some site.item (sym (ap (λ (m : Option Model). slice_get (items_of m) site.number) stands) ∙ item))
     by site item (Some model) stands (Some name) is net_is =

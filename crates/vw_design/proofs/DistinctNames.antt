@@ -49,7 +49,8 @@ distinct_apart (first ∷ names) others all name has has_too =
     (λ later. distinct_apart names others (distinct_rest first (names ++ others) all) name later has_too) has
 
 -- two distinct lists without a common name are distinct together
-pub distinct_append : (names others : List Word) → are_distinct names ≡ true → are_distinct others ≡ true → ((name : Word) → Has name names → Has name others → ⊥)
+pub distinct_append : (names others : List Word) → are_distinct names ≡ true → are_distinct others ≡ true
+    → ((name : Word) → Has name names → Has name others → ⊥)
     → are_distinct (names ++ others) ≡ true
 distinct_append [] others all all_too apart = all_too
 distinct_append (name ∷ names) others all all_too apart =

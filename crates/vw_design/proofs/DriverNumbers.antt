@@ -30,7 +30,8 @@ IsPossibleSource design (at_cell path number) = (item : Item) × (item_at design
 
 module _ (design : Design) where
   turned_up : (turns : ℕ) → ((path : Path) (name : Word) (source : Source) → source_after design turns path name ≡ Some source → IsPossibleSource design source)
-      → (path : Path) (actual : Option Word) (source : Source) → follow_turn (source_after design turns) (turn_up path actual) ≡ Some source → IsPossibleSource design source
+      → (path : Path) (actual : Option Word) (source : Source) → follow_turn (source_after design turns) (turn_up path actual) ≡ Some source
+      → IsPossibleSource design source
   turned_up turns further path None source found = absurd (none-some source found)
   turned_up turns further path (Some actual) source found = further path actual source found
 
@@ -58,7 +59,8 @@ module _ (design : Design) where
 
 module _ (design : Design) (faultless : HasNoModelFault design) where
   -- a gate or latch of an instance is among the cells
-  pub cell_place : (path : Path) (number : ℕ) (item : Item) → item_at design path number ≡ Some item → is_cell item ≡ true → (place : ℕ) × (place_of_site (cells design) path number ≡ Some place)
+  pub cell_place : (path : Path) (number : ℕ) (item : Item) → item_at design path number ≡ Some item → is_cell item ≡ true
+      → (place : ℕ) × (place_of_site (cells design) path number ≡ Some place)
   cell_place path number item at cell =
       let site = faultless_site design faultless path number item at in
       let listed = Has-filter (λ (s : Site). is_cell s.item) site.0 (sites design) (Has-Contains site.0 (sites design) site.1) (ap is_cell site.4 ∙ cell) in

@@ -18,13 +18,15 @@ pub record IsEntry (all : List Item) (entry : Numbered) : Type 0 where
   pub item : slice_get all entry.number ≡ Some entry.item
   pub placing : (line : ℕ) (model : Word) (binds : List Bind) → entry.item ≡ Sub line model binds → slice_get (placings all) entry.before ≡ Some (record { model = model; binds = binds })
 
-later : {A : Type 0} (xs all : List A) (number k : ℕ) → slice_get xs (suc k) ≡ slice_get all (number + suc k) → slice_get xs (suc k) ≡ slice_get all (suc number + k)
+later : {A : Type 0} (xs all : List A) (number k : ℕ) → slice_get xs (suc k) ≡ slice_get all (number + suc k)
+    → slice_get xs (suc k) ≡ slice_get all (suc number + k)
 later xs all number k is = is ∙ ap (slice_get all) (omega arith)
 
 here : {A : Type 0} (x : A) (all : List A) (number : ℕ) → Some x ≡ slice_get all (number + 0) → slice_get all number ≡ Some x
 here x all number is = ap (slice_get all) (omega arith) ∙ sym is
 
-entry_at : (all : List Item) (number before : ℕ) (items : List Item) → AreItems all number before items → (entry : Numbered) → Has entry (numbered number before items) → IsEntry all entry
+entry_at : (all : List Item) (number before : ℕ) (items : List Item) → AreItems all number before items → (entry : Numbered)
+    → Has entry (numbered number before items) → IsEntry all entry
 entry_at all number before [] are entry has = absurd has
 entry_at all number before (Names line ins out cover ∷ items) are entry has =
     let item = Names line ins out cover in
@@ -72,10 +74,12 @@ pub record IsListedItem (list : List Numbered) (number : ℕ) (item : Item) : Ty
   pub number_is : entry.number ≡ number
   pub item_is : entry.item ≡ item
 
-behind : (number : ℕ) (first : Numbered) (list : List Numbered) (k : ℕ) (item : Item) → IsListedItem list (suc number + k) item → IsListedItem (first ∷ list) (number + suc k) item
+behind : (number : ℕ) (first : Numbered) (list : List Numbered) (k : ℕ) (item : Item) → IsListedItem list (suc number + k) item
+    → IsListedItem (first ∷ list) (number + suc k) item
 behind number first list k item has = record { entry = has.entry; has = inr has.has; number_is = has.number_is ∙ omega arith; item_is = has.item_is }
 
-has_item : (number before : ℕ) (items : List Item) (k : ℕ) (item : Item) → slice_get items k ≡ Some item → IsListedItem (numbered number before items) (number + k) item
+has_item : (number before : ℕ) (items : List Item) (k : ℕ) (item : Item) → slice_get items k ≡ Some item
+    → IsListedItem (numbered number before items) (number + k) item
 has_item number before [] k item at = absurd (none-some item at)
 has_item number before (first ∷ items) zero item at =
     record { entry = record { number = number; before = before; item = first }; has = inl refl; number_is = omega arith; item_is = same_Some first item at }
@@ -93,10 +97,12 @@ pub record HasPlacing (list : List Numbered) (before : ℕ) (placing : Placing) 
   pub before_is : entry.before ≡ before
   pub item_is : entry.item ≡ Sub line placing.model placing.binds
 
-passed : (before : ℕ) (first : Numbered) (list : List Numbered) (k : ℕ) (placing : Placing) → HasPlacing list (before + k) placing → HasPlacing (first ∷ list) (before + k) placing
+passed : (before : ℕ) (first : Numbered) (list : List Numbered) (k : ℕ) (placing : Placing) → HasPlacing list (before + k) placing
+    → HasPlacing (first ∷ list) (before + k) placing
 passed before first list k placing has = record { entry = has.entry; line = has.line; has = inr has.has; before_is = has.before_is; item_is = has.item_is }
 
-has_placing : (number before : ℕ) (items : List Item) (k : ℕ) (placing : Placing) → slice_get (placings items) k ≡ Some placing → HasPlacing (numbered number before items) (before + k) placing
+has_placing : (number before : ℕ) (items : List Item) (k : ℕ) (placing : Placing) → slice_get (placings items) k ≡ Some placing
+    → HasPlacing (numbered number before items) (before + k) placing
 has_placing number before [] k placing at = absurd (none-some placing at)
 has_placing number before (Names line ins out cover ∷ items) k placing at =
     passed before (record { number = number; before = before; item = Names line ins out cover }) (numbered (suc number) before items) k placing (has_placing (suc number) before items k placing at)

@@ -90,16 +90,19 @@ is_further (clocks_differ ports) = true
 is_further (edges_differ list) = true
 is_further (clock_read net) = true
 
-further_or : {A : Type 0} (make : A → Fault) (found : Option A) (rest : Option Fault) (fault : Fault) → ((x : A) → is_further (make x) ≡ true) → (rest ≡ Some fault → is_further fault ≡ true)
+further_or : {A : Type 0} (make : A → Fault) (found : Option A) (rest : Option Fault) (fault : Fault)
+    → ((x : A) → is_further (make x) ≡ true) → (rest ≡ Some fault → is_further fault ≡ true)
     → option_or (option_map make found) rest ≡ Some fault → is_further fault ≡ true
 further_or make None rest fault makes later is = later is
 further_or make (Some x) rest fault makes later is = ap is_further (sym (same_Some (make x) fault is)) ∙ makes x
 
-further_last : {A : Type 0} (make : A → Fault) (found : Option A) (fault : Fault) → ((x : A) → is_further (make x) ≡ true) → option_map make found ≡ Some fault → is_further fault ≡ true
+further_last : {A : Type 0} (make : A → Fault) (found : Option A) (fault : Fault) → ((x : A) → is_further (make x) ≡ true)
+    → option_map make found ≡ Some fault → is_further fault ≡ true
 further_last make None fault makes is = absurd (none-some fault is)
 further_last make (Some x) fault makes is = ap is_further (sym (same_Some (make x) fault is)) ∙ makes x
 
-either : (one other : Option Fault) (fault : Fault) → (one ≡ Some fault → is_further fault ≡ true) → (other ≡ Some fault → is_further fault ≡ true) → option_or one other ≡ Some fault → is_further fault ≡ true
+either : (one other : Option Fault) (fault : Fault) → (one ≡ Some fault → is_further fault ≡ true)
+    → (other ≡ Some fault → is_further fault ≡ true) → option_or one other ≡ Some fault → is_further fault ≡ true
 either None other fault first second is = second is
 either (Some x) other fault first second is = first is
 

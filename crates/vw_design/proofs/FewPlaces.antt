@@ -24,7 +24,8 @@ placings_weigh below (Latch line d q edge control init ∷ items) = omega (arith
 placings_weigh below (Sub line model binds ∷ items) = omega (arith, placings_weigh below items)
 
 -- and more than the model of each has
-placing_weighs : (below : Word → ℕ) (items : List Item) (place : ℕ) (placing : Placing) → slice_get (placings items) place ≡ Some placing → below placing.model < items_weight placed_one below items
+placing_weighs : (below : Word → ℕ) (items : List Item) (place : ℕ) (placing : Placing) → slice_get (placings items) place ≡ Some placing
+    → below placing.model < items_weight placed_one below items
 placing_weighs below [] place placing at = absurd (none-some placing at)
 placing_weighs below (Names line ins out cover ∷ items) place placing at = omega (arith, placing_weighs below items place placing at)
 placing_weighs below (Latch line d q edge control init ∷ items) place placing at = omega (arith, placing_weighs below items place placing at)
@@ -49,7 +50,8 @@ module _ (design : Design) where
   placed_at : (place : ℕ) (model child : Model) → model_placed design place model ≡ Some child → IsPlaced place model child
   placed_at zero model child is = absurd (none-some child is)
   placed_at (suc before) model child is = by (slice_get (placings model.items) before) refl is where
-    by : (found : Option Placing) → slice_get (placings model.items) before ≡ found → option_and_then (λ (p : Placing). model_named design.models p.model) found ≡ Some child → IsPlaced (suc before) model child
+    by : (found : Option Placing) → slice_get (placings model.items) before ≡ found
+        → option_and_then (λ (p : Placing). model_named design.models p.model) found ≡ Some child → IsPlaced (suc before) model child
     by None at is = absurd (none-some child is)
     by (Some placing) at is = record { before = before; placing = placing; next = refl; at = at; named = is }
 
@@ -66,7 +68,8 @@ module _ (design : Design) where
     by (Some model) at is = record { model = model; stands = at; placed = placed_at place model child is }
 
   -- an instance places fewer than the one that places it
-  above : (depth : ℕ) (path : Path) (model : Model) → model_at design path ≡ Some model → placed_below depth (Some model) + length path ≤ placed_below (depth + length path) (model_at design [])
+  above : (depth : ℕ) (path : Path) (model : Model) → model_at design path ≡ Some model
+      → placed_below depth (Some model) + length path ≤ placed_below (depth + length path) (model_at design [])
   above depth [] model stands =
       let same : depth + 0 ≡ depth = omega arith in
       let here : placed_below depth (Some model) ≡ placed_below (depth + 0) (model_at design []) = ap₂ placed_below (sym same) (sym stands) in
@@ -81,7 +84,8 @@ module _ (design : Design) where
       omega (arith, further, fewer, weighs, same)
 
   -- a place is no greater than the number of instances below the root
-  pub place_few : HasNoModelFault design → (place : ℕ) (path : Path) (child : Model) → model_at design (place ∷ path) ≡ Some child → place < instance_count design
+  pub place_few : HasNoModelFault design → (place : ℕ) (path : Path) (child : Model) → model_at design (place ∷ path) ≡ Some child
+      → place < instance_count design
   place_few faultless place path child stands =
       let from = parent place path child stands in
       let deep = faultless_shallow design faultless in

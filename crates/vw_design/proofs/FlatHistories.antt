@@ -33,7 +33,8 @@ starts design unknown [] [] along = refl
 starts design unknown [] (cell ∷ made) along = absurd along
 starts design unknown (site ∷ list) [] along = absurd along
 starts design unknown (site ∷ list) (cell ∷ made) along = by site.item refl cell along.0 (starts design unknown list made along.1) where
-  by : (item : Item) → site.item ≡ item → (cell : Cell) → IsCellOf design site.path item cell → start_values unknown made ≡ starting unknown (filter (λ (s : Site). is_latch_item s.item) list)
+  by : (item : Item) → site.item ≡ item → (cell : Cell) → IsCellOf design site.path item cell
+      → start_values unknown made ≡ starting unknown (filter (λ (s : Site). is_latch_item s.item) list)
       → start_values unknown (cell ∷ made) ≡ starting unknown (cond (is_latch_item item) (site ∷ filter (λ (s : Site). is_latch_item s.item) list) (filter (λ (s : Site). is_latch_item s.item) list))
   by (Names line ins out cover) is (Gate nets table) of_item rest = rest
   by (Names line ins out cover) is (Latch net start) of_item rest = absurd of_item
@@ -44,14 +45,16 @@ starts design unknown (site ∷ list) (cell ∷ made) along = by site.item refl 
   by (Sub line model binds) is (Latch net start) of_item rest = absurd of_item
 
 -- what they take next
-nexts : (design : Design) (value : ℕ → Bool) (other : Path → Word → Bool) → ((path : Path) (name : Word) (net : ℕ) → number_of design path name ≡ Some net → value net ≡ other path name)
+nexts : (design : Design) (value : ℕ → Bool) (other : Path → Word → Bool)
+    → ((path : Path) (name : Word) (net : ℕ) → number_of design path name ≡ Some net → value net ≡ other path name)
     → (list : List Site) (made : List Cell) → AllZip (λ site cell. IsCellOf design site.path site.item cell) list made
     → map value (latch_inputs made) ≡ map (λ (s : Site). latch_next (other s.path) s.item) (filter (λ (s : Site). is_latch_item s.item) list)
 nexts design value other agree [] [] along = refl
 nexts design value other agree [] (cell ∷ made) along = absurd along
 nexts design value other agree (site ∷ list) [] along = absurd along
 nexts design value other agree (site ∷ list) (cell ∷ made) along = by site.item refl cell along.0 (nexts design value other agree list made along.1) where
-  by : (item : Item) → site.item ≡ item → (cell : Cell) → IsCellOf design site.path item cell → map value (latch_inputs made) ≡ stepping other (filter (λ (s : Site). is_latch_item s.item) list)
+  by : (item : Item) → site.item ≡ item → (cell : Cell) → IsCellOf design site.path item cell
+      → map value (latch_inputs made) ≡ stepping other (filter (λ (s : Site). is_latch_item s.item) list)
       → map value (latch_inputs (cell ∷ made)) ≡ stepping other (cond (is_latch_item item) (site ∷ filter (λ (s : Site). is_latch_item s.item) list) (filter (λ (s : Site). is_latch_item s.item) list))
   by (Names line ins out cover) is (Gate nets table) of_item rest = rest
   by (Names line ins out cover) is (Latch net start) of_item rest = absurd of_item
@@ -63,7 +66,8 @@ nexts design value other agree (site ∷ list) (cell ∷ made) along = by site.i
 
 module _ (design : Design) (watched : List Net) (flat : Flat) (made : IsFlatOf design watched flat) where
   -- the values of numbered nets
-  pub values_agree : (row state : List Bool) (path : Path) (name : Word) (net : ℕ) → number_of design path name ≡ Some net → net_value flat row state net ≡ path_value design row state path name
+  pub values_agree : (row state : List Bool) (path : Path) (name : Word) (net : ℕ) → number_of design path name ≡ Some net
+      → net_value flat row state net ≡ path_value design row state path name
   unfolding net_value path_value
   values_agree row state path name net number =
       let same = AllZip-length (λ (s : Site) (cell : Cell). IsCellOf design s.path s.item cell) (cells design) flat.cells made.cells in
@@ -98,7 +102,8 @@ module _ (design : Design) (watched : List Net) (flat : Flat) (made : IsFlatOf d
   last_state state [] = refl
   last_state state (row ∷ rows) = ap (λ (next : List Bool). state_after flat next rows) (next_agrees row state) ∙ last_state (path_next design row state) rows
 
-  pub histories_agree : (unknown : Bool) (rows : List (List Bool)) → flat_history flat (start_values unknown flat.cells) rows ≡ path_history design watched unknown rows
+  pub histories_agree : (unknown : Bool) (rows : List (List Bool))
+      → flat_history flat (start_values unknown flat.cells) rows ≡ path_history design watched unknown rows
   histories_agree unknown rows =
       ap (λ (state : List Bool). flat_history flat state rows) (start_agrees unknown) ∙ joined (path_start unknown design)
     where

@@ -43,7 +43,9 @@ cell_same design path (LatchItem line d q edge control init) (Latch net start) (
 cell_same design path (Sub line model binds) (Gate nets table) other is its = absurd is
 cell_same design path (Sub line model binds) (Latch net start) other is its = absurd is
 
-cells_same : (design : Design) (sites : List Site) (one other : List Cell) → AllZip (λ site cell. IsCellOf design site.path site.item cell) sites one → AllZip (λ site cell. IsCellOf design site.path site.item cell) sites other → one ≡ other
+cells_same : (design : Design) (sites : List Site) (one other : List Cell)
+    → AllZip (λ site cell. IsCellOf design site.path site.item cell) sites one
+    → AllZip (λ site cell. IsCellOf design site.path site.item cell) sites other → one ≡ other
 cells_same design [] [] [] is its = refl
 cells_same design [] (cell ∷ one) other is its = absurd is
 cells_same design [] [] (cell ∷ other) is its = absurd its

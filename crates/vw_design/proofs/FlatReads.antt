@@ -28,7 +28,8 @@ use Rattle.vw_design.proofs.PairedLists.{AllZip-at}
 
 module _ (design : Design) where
   -- a driver is a cell exactly where its number is the cell's
-  same_driver : (place : ℕ) (site : Site) → slice_get (cells design) place ≡ Some site → (source : Option Source) (net : ℕ) → number_of_source design source ≡ Some net
+  same_driver : (place : ℕ) (site : Site) → slice_get (cells design) place ≡ Some site → (source : Option Source) (net : ℕ)
+      → number_of_source design source ≡ Some net
       → is_driven_by (gate_at site) source ≡ (net == length (columns design) + place)
   same_driver place site at None net number = absurd (none-some net number)
   same_driver place site at (Some (at_port name)) net number =
@@ -55,14 +56,16 @@ module _ (design : Design) where
         let net_is : length (columns design) + found ≡ net = same_Some (length (columns design) + found) net number in
         decide (bytes_eq path site.path && eqb item site.number) refl
       where
-        decide : (b : Bool) → (bytes_eq path site.path && eqb item site.number) ≡ b → (bytes_eq path site.path && eqb item site.number) ≡ (net == length (columns design) + place)
+        decide : (b : Bool) → (bytes_eq path site.path && eqb item site.number) ≡ b
+            → (bytes_eq path site.path && eqb item site.number) ≡ (net == length (columns design) + place)
         decide true passes = passes ∙ sym (eq-eqb net (length (columns design) + place) (omega (arith, same_Some (length (columns design) + found) net number, there found is passes)))
         decide false fails =
             fails ∙ sym (ne_eqb net (length (columns design) + place) (λ same.
             true≢false (sym (here found is (omega (arith, same_Some (length (columns design) + found) net number, same))) ∙ fails)))
 
   -- of each net that is read
-  any_driver : (place : ℕ) (site : Site) → slice_get (cells design) place ≡ Some site → (path : Path) (ins : List Word) (nets : List ℕ) → map (number_of design path) ins ≡ map (λ net. Some net) nets
+  any_driver : (place : ℕ) (site : Site) → slice_get (cells design) place ≡ Some site → (path : Path) (ins : List Word) (nets : List ℕ)
+      → map (number_of design path) ins ≡ map (λ net. Some net) nets
       → list_any (λ name. is_driven_by (gate_at site) (driver design path name)) ins ≡ list_any (λ net. net == length (columns design) + place) nets
   any_driver place site at path [] [] are = refl
   any_driver place site at path [] (net ∷ nets) are = cc
@@ -73,7 +76,8 @@ module _ (design : Design) where
       ap₂ (λ (a b : Bool). a || b) (same_driver place site at (driver design path name) net first) (any_driver place site at path ins nets rest)
 
   -- a gate reads a cell exactly where its cell of the netlist reads the cell's net
-  pub reads_agree : (watched : List Net) (flat : Flat) → IsFlatOf design watched flat → (place other : ℕ) (site read : Site) → slice_get (cells design) place ≡ Some site → slice_get (cells design) other ≡ Some read
+  pub reads_agree : (watched : List Net) (flat : Flat) → IsFlatOf design watched flat → (place other : ℕ) (site read : Site)
+      → slice_get (cells design) place ≡ Some site → slice_get (cells design) other ≡ Some read
       → (line : ℕ) (ins : List Word) (out : Word) (cover : Cover) → site.item ≡ Names line ins out cover
       → gate_reads design (gate_at site) (gate_at read) ≡ list_any (λ net. net == flat.inputs + other) (read_nets_at (slice_get flat.cells place))
   reads_agree watched flat made place other site read at at_read line ins out cover is =

@@ -52,7 +52,8 @@ count_latches design [] [] along (suc k) = refl
 count_latches design [] (cell ∷ made) along (suc k) = absurd along
 count_latches design (site ∷ list) [] along (suc k) = absurd along
 count_latches design (site ∷ list) (cell ∷ made) along (suc k) = by site.item refl cell along.0 (count_latches design list made along.1 k) where
-  by : (item : Item) → site.item ≡ item → (cell : Cell) → IsCellOf design site.path item cell → length (filter (λ (s : Site). is_latch_item s.item) (take k list)) ≡ latch_count (take k made)
+  by : (item : Item) → site.item ≡ item → (cell : Cell) → IsCellOf design site.path item cell
+      → length (filter (λ (s : Site). is_latch_item s.item) (take k list)) ≡ latch_count (take k made)
       → length (cond (is_latch_item item) (site ∷ filter (λ (s : Site). is_latch_item s.item) (take k list)) (filter (λ (s : Site). is_latch_item s.item) (take k list))) ≡ latch_count (cell ∷ take k made)
   by (Names line ins out cover) is (Gate nets table) made_of rest = rest
   by (Names line ins out cover) is (Latch net start) made_of rest = absurd made_of
@@ -66,7 +67,8 @@ same_table : (cover table : Cover) → IsTableOf cover table → (bits : List Bo
 same_table cover table same bits = rw (same.on, same.rows) refl
 
 -- the site at the first place of an item is of that item
-pub site_of_place : (list : List Site) (path : Path) (number place : ℕ) → place_of_site list path number ≡ Some place → (site : Site) × (slice_get list place ≡ Some site) × (site.path ≡ path) × (site.number ≡ number)
+pub site_of_place : (list : List Site) (path : Path) (number place : ℕ) → place_of_site list path number ≡ Some place
+    → (site : Site) × (slice_get list place ≡ Some site) × (site.path ≡ path) × (site.number ≡ number)
 site_of_place list path number place found =
     let at = at-place (is_site_of path number) list place found in
     let parts = and_parts (bytes_eq at.0.path path) _ at.2 in
@@ -74,7 +76,8 @@ site_of_place list path number place found =
 
 module _ (design : Design) (watched : List Net) (flat : Flat) (made : IsFlatOf design watched flat) (row state : List Bool) where
   -- a net with a column
-  column_value : (level : ℕ) (name : Word) (net : ℕ) → place_of_name (columns design) name ≡ Some net → level_value (suc level) flat row state net ≡ bit_at row (place_of_name (columns design) name)
+  column_value : (level : ℕ) (name : Word) (net : ℕ) → place_of_name (columns design) name ≡ Some net
+      → level_value (suc level) flat row state net ≡ bit_at row (place_of_name (columns design) name)
   column_value level name net found =
       let within : nat_lt net flat.inputs ≡ true = lt-ltb net flat.inputs (omega (arith, place_within (columns design) name net found, made.inputs)) in
       rw within (sym (ap (bit_at row) found))
@@ -88,7 +91,8 @@ module _ (design : Design) (watched : List Net) (flat : Flat) (made : IsFlatOf d
       rw (no_input, back) refl
 
   -- what a cell gives its net is what the item gives it
-  cell_value : (level : ℕ) → ((path : Path) (name : Word) (net : ℕ) → number_of design path name ≡ Some net → level_value level flat row state net ≡ path_level level design row state path name)
+  cell_value : (level : ℕ)
+      → ((path : Path) (name : Word) (net : ℕ) → number_of design path name ≡ Some net → level_value level flat row state net ≡ path_level level design row state path name)
       → (path : Path) (number before : ℕ) (item : Item) (cell : Cell) → IsCellOf design path item cell
       → (is_latch_item item ≡ true → place_of_site (latches design) path number ≡ Some before)
       → driven_value (level_value level flat row state) state before (Some cell) ≡ item_value design state (path_level level design row state) path number (Some item)
@@ -102,7 +106,8 @@ module _ (design : Design) (watched : List Net) (flat : Flat) (made : IsFlatOf d
   cell_value level below path number before (Sub line model binds) (Latch net start) is latch = absurd is
 
   -- a net whose driver is a cell
-  driven_level : (level : ℕ) → ((path : Path) (name : Word) (net : ℕ) → number_of design path name ≡ Some net → level_value level flat row state net ≡ path_level level design row state path name)
+  driven_level : (level : ℕ)
+      → ((path : Path) (name : Word) (net : ℕ) → number_of design path name ≡ Some net → level_value level flat row state net ≡ path_level level design row state path name)
       → (path : Path) (number place : ℕ) → place_of_site (cells design) path number ≡ Some place
       → level_value (suc level) flat row state (length (columns design) + place) ≡ item_value design state (path_level level design row state) path number (item_at design path number)
   driven_level level below path number place found =
@@ -121,8 +126,10 @@ module _ (design : Design) (watched : List Net) (flat : Flat) (made : IsFlatOf d
       ∙ cell_value level below path number (latch_count (take place flat.cells)) site.0.item along.0 of_item latch
       ∙ sym (ap (item_value design state (path_level level design row state) path number) item)
 
-  by_source : (level : ℕ) → ((path : Path) (name : Word) (net : ℕ) → number_of design path name ≡ Some net → level_value level flat row state net ≡ path_level level design row state path name)
-      → (source : Option Source) (net : ℕ) → number_of_source design source ≡ Some net → level_value (suc level) flat row state net ≡ source_value design row state (path_level level design row state) source
+  by_source : (level : ℕ)
+      → ((path : Path) (name : Word) (net : ℕ) → number_of design path name ≡ Some net → level_value level flat row state net ≡ path_level level design row state path name)
+      → (source : Option Source) (net : ℕ) → number_of_source design source ≡ Some net
+      → level_value (suc level) flat row state net ≡ source_value design row state (path_level level design row state) source
   by_source level below None net number = absurd (none-some net number)
   by_source level below (Some (at_port name)) net number = column_value level name net number
   by_source level below (Some (at_cell path item)) net number = of_place (place_of_site (cells design) path item) refl number where
@@ -133,6 +140,7 @@ module _ (design : Design) (watched : List Net) (flat : Flat) (made : IsFlatOf d
         ap (level_value (suc level) flat row state) (sym (same_Some (length (columns design) + place) net found)) ∙ driven_level level below path item place is
 
   -- at every level
-  pub levels_agree : (level : ℕ) (path : Path) (name : Word) (net : ℕ) → number_of design path name ≡ Some net → level_value level flat row state net ≡ path_level level design row state path name
+  pub levels_agree : (level : ℕ) (path : Path) (name : Word) (net : ℕ) → number_of design path name ≡ Some net
+      → level_value level flat row state net ≡ path_level level design row state path name
   levels_agree zero path name net number = refl
   levels_agree (suc level) path name net number = by_source level (levels_agree level) (driver design path name) net number

@@ -47,7 +47,8 @@ module _ (design : Design) where
       let further = items_reach depth path (suc number) (suc before) items (λ e has. each e (inr has)) in
       omega (arith, here, further, deepest_append below rest)
 
-  sites_reach : (depth : ℕ) (path : Path) → max (length path + 1) (deepest (sites_below design (suc depth) path)) ≡ length path + 1 + items_height (model_height design depth) (items_of (model_at design path))
+  sites_reach : (depth : ℕ) (path : Path)
+      → max (length path + 1) (deepest (sites_below design (suc depth) path)) ≡ length path + 1 + items_height (model_height design depth) (items_of (model_at design path))
   sites_reach zero path = items_reach zero path 0 0 (items_of (model_at design path)) (λ e has line name binds is. omega arith)
   sites_reach (suc depth) path =
       items_reach (suc depth) path 0 0 (items_of (model_at design path)) (λ e has line name binds is.

@@ -27,7 +27,8 @@ pub record HasLatchPlace (design : Design) (path : Path) (number : ℕ) (item : 
   pub item_is : site.item ≡ item
 
 -- a latch of an instance has a place
-pub latch_place : (design : Design) → HasNoModelFault design → (path : Path) (number : ℕ) (item : Item) → item_at design path number ≡ Some item → is_latch_item item ≡ true → HasLatchPlace design path number item
+pub latch_place : (design : Design) → HasNoModelFault design → (path : Path) (number : ℕ) (item : Item)
+    → item_at design path number ≡ Some item → is_latch_item item ≡ true → HasLatchPlace design path number item
 latch_place design faultless path number item at latch =
     let listed = faultless_site design faultless path number item at in
     let among = Has-filter (λ (s : Site). is_latch_item s.item) listed.0 (sites design) (Has-Contains listed.0 (sites design) listed.1) (ap is_latch_item listed.4 ∙ latch) in

@@ -100,7 +100,8 @@ module _ {A : Type 0} where
       ⊎_elim (λ same. ap test (sym same) ∙ parts.0) (λ later. all-Has test x ys parts.1 later) has
 
   -- the first place of an element that passes a test
-  place_step : (p : A → Bool) (x y : A) (ys : List A) (b : Bool) → p y ≡ b → p x ≡ true → (Has x ys → (place : ℕ) × (first_place p ys ≡ Some place)) → Has x (y ∷ ys)
+  place_step : (p : A → Bool) (x y : A) (ys : List A) (b : Bool) → p y ≡ b → p x ≡ true
+      → (Has x ys → (place : ℕ) × (first_place p ys ≡ Some place)) → Has x (y ∷ ys)
       → (place : ℕ) × (cond b (Some 0) (option_map (λ at. suc at) (first_place p ys)) ≡ Some place)
   place_step p x y ys true is passes rest has = (0, refl)
   place_step p x y ys false is passes rest has =
@@ -110,8 +111,10 @@ module _ {A : Type 0} where
   some-place p x [] has passes = absurd has
   some-place p x (y ∷ ys) has passes = place_step p x y ys (p y) refl passes (λ later. some-place p x ys later passes) has
 
-  at_step : (p : A → Bool) (y : A) (ys : List A) (place : ℕ) (b : Bool) → p y ≡ b → ((before : ℕ) → first_place p ys ≡ Some before → (x : A) × (slice_get ys before ≡ Some x) × (p x ≡ true))
-      → (rest : Option ℕ) → first_place p ys ≡ rest → cond b (Some 0) (option_map (λ at. suc at) rest) ≡ Some place → (x : A) × (slice_get (y ∷ ys) place ≡ Some x) × (p x ≡ true)
+  at_step : (p : A → Bool) (y : A) (ys : List A) (place : ℕ) (b : Bool) → p y ≡ b
+      → ((before : ℕ) → first_place p ys ≡ Some before → (x : A) × (slice_get ys before ≡ Some x) × (p x ≡ true))
+      → (rest : Option ℕ) → first_place p ys ≡ rest → cond b (Some 0) (option_map (λ at. suc at) rest) ≡ Some place
+      → (x : A) × (slice_get (y ∷ ys) place ≡ Some x) × (p x ≡ true)
   at_step p y ys place true passes further rest is found = subst (λ (at : ℕ). (x : A) × (slice_get (y ∷ ys) at ≡ Some x) × (p x ≡ true)) (same_Some 0 place found) (y, refl, passes)
   at_step p y ys place false passes further None is found = absurd (none-some place found)
   at_step p y ys place false passes further (Some before) is found =
@@ -150,7 +153,8 @@ module _ {A B : Type 0} where
   from-filter_map h z [] has = absurd has
   from-filter_map h z (y ∷ ys) has = option_step h z y ys (h y) refl (from-filter_map h z ys) has
 
-  option_keep : (h : A → Option B) (z : B) (x y : A) (ys : List A) (o : Option B) → h y ≡ o → h x ≡ Some z → (Has x ys → Has z (filter_map h ys)) → Has x (y ∷ ys)
+  option_keep : (h : A → Option B) (z : B) (x y : A) (ys : List A) (o : Option B) → h y ≡ o → h x ≡ Some z
+      → (Has x ys → Has z (filter_map h ys)) → Has x (y ∷ ys)
       → Has z (cons_option o (filter_map h ys))
   option_keep h z x y ys None is gives rest has = ⊎_elim (λ same. absurd (none-some z (sym is ∙ ap h same ∙ gives))) (λ later. rest later) has
   option_keep h z x y ys (Some w) is gives rest has = ⊎_elim (λ same. inl (same_Some w z (sym is ∙ ap h same ∙ gives))) (λ later. inr (rest later)) has

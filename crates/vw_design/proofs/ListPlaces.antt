@@ -55,7 +55,8 @@ module _ {A : Type 0} where
   set_elsewhere (y ∷ xs) (suc k) (suc j) x apart = set_elsewhere xs k j x (λ same. apart (ap suc same))
 
 -- the list at a place of lists, where it has an element
-pub list_at : {A : Type 0} → (lists : List (List A)) (k place : ℕ) (x : A) → slice_get (slice_index_or lists k []) place ≡ Some x → slice_get lists k ≡ Some (slice_index_or lists k [])
+pub list_at : {A : Type 0} → (lists : List (List A)) (k place : ℕ) (x : A) → slice_get (slice_index_or lists k []) place ≡ Some x
+    → slice_get lists k ≡ Some (slice_index_or lists k [])
 list_at {A = A} lists k place x at = ⊎_elim
     (λ within. slice_get-get_or lists k [] within)
     (λ past. absurd (none-some x (sym (ap (λ (l : List A). slice_get l place) (get_or_past lists k [] past)) ∙ at)))

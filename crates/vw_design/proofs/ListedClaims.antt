@@ -59,7 +59,8 @@ in_append name (entry ∷ one) other = by (bytes_eq entry.name name) (in_append 
 -- ---- the list has the claims, and their names
 
 -- a name before others that is the one that is asked for
-passing : (name : Word) (entry : ClaimedName) (list : List ClaimedName) → bytes_eq entry.name name ≡ true → claims_in name (entry ∷ list) ≡ entry.claim ∷ claims_in name list
+passing : (name : Word) (entry : ClaimedName) (list : List ClaimedName) → bytes_eq entry.name name ≡ true
+    → claims_in name (entry ∷ list) ≡ entry.claim ∷ claims_in name list
 passing name entry list is = by (bytes_eq entry.name name) is where
   by : (b : Bool) → b ≡ true
       → map (λ (e : ClaimedName). e.claim) (cond b (entry ∷ filter (λ (e : ClaimedName). bytes_eq e.name name) list) (filter (λ (e : ClaimedName). bytes_eq e.name name) list)) ≡ entry.claim ∷ claims_in name list
@@ -75,7 +76,8 @@ failing name entry list is = by (bytes_eq entry.name name) is where
   by false fails = refl
 
 -- the claims of bindings on a name are those in their list
-bind_claims_in : (outputs : List Word) (place : ℕ) (name : Word) (binds : List Bind) → filter_map (bind_claim outputs place name) binds ≡ claims_in name (filter_map (bind_entry outputs place) binds)
+bind_claims_in : (outputs : List Word) (place : ℕ) (name : Word) (binds : List Bind)
+    → filter_map (bind_claim outputs place name) binds ≡ claims_in name (filter_map (bind_entry outputs place) binds)
 bind_claims_in outputs place name [] = refl
 bind_claims_in outputs place name (bind ∷ binds) = by (bytes_eq bind.actual name) refl (has_name outputs bind.formal) (bind_claims_in outputs place name binds) where
   by : (same : Bool) → bytes_eq bind.actual name ≡ same → (output : Bool)
@@ -90,7 +92,8 @@ bind_claims_in outputs place name (bind ∷ binds) = by (bytes_eq bind.actual na
   by false is false rest = rest
 
 -- so are those of an item
-item_claims_in : (design : Design) (name : Word) (number before : ℕ) (item : Item) → item_claims design name number before item ≡ claims_in name (item_entries design number before item)
+item_claims_in : (design : Design) (name : Word) (number before : ℕ) (item : Item)
+    → item_claims design name number before item ≡ claims_in name (item_entries design number before item)
 item_claims_in design name number before (Names line ins out cover) = by (bytes_eq out name) where
   by : (b : Bool) → (if b then driven number ∷ [] else []) ≡ map (λ (e : ClaimedName). e.claim) (cond b (record { name = out; claim = driven number } ∷ []) [])
   by true = refl
@@ -110,12 +113,14 @@ items_claims_in design name (entry ∷ list) =
     ∙ sym (in_append name (item_entries design entry.number entry.before entry.item) (flat_map (λ (e : Numbered). item_entries design e.number e.before e.item) list))
 
 -- the claims on a name are a port, and those of the list
-pub claims_listed : (design : Design) (model : Model) (name : Word) → claims design model name ≡ (if is_port model name then port ∷ [] else []) ++ claims_in name (claim_list design model)
+pub claims_listed : (design : Design) (model : Model) (name : Word)
+    → claims design model name ≡ (if is_port model name then port ∷ [] else []) ++ claims_in name (claim_list design model)
 claims_listed design model name =
     ap (λ (cs : List Claim). (if is_port model name then port ∷ [] else []) ++ cs) (items_claims_in design name (numbered 0 0 model.items))
 
 -- the names in the list of bindings are their actuals
-bind_names : (outputs : List Word) (place : ℕ) (binds : List Bind) → map (λ entry. entry.name) (filter_map (bind_entry outputs place) binds) ≡ filter_map (bound_actual outputs) binds
+bind_names : (outputs : List Word) (place : ℕ) (binds : List Bind)
+    → map (λ entry. entry.name) (filter_map (bind_entry outputs place) binds) ≡ filter_map (bound_actual outputs) binds
 bind_names outputs place [] = refl
 bind_names outputs place (bind ∷ binds) = by (has_name outputs bind.formal) (bind_names outputs place binds) where
   by : (b : Bool) → map (λ (e : ClaimedName). e.name) (filter_map (bind_entry outputs place) binds) ≡ filter_map (bound_actual outputs) binds
@@ -154,7 +159,8 @@ none_in name (entry ∷ list) none =
     ∙ none_in name list (λ has. none (inr has))
 
 -- a name of a list in which names differ has its claim alone
-one_in : (entry : ClaimedName) (list : List ClaimedName) → are_distinct (map (λ entry. entry.name) list) ≡ true → Has entry list → claims_in entry.name list ≡ entry.claim ∷ []
+one_in : (entry : ClaimedName) (list : List ClaimedName) → are_distinct (map (λ entry. entry.name) list) ≡ true → Has entry list
+    → claims_in entry.name list ≡ entry.claim ∷ []
 one_in entry [] all has = absurd has
 one_in entry (first ∷ list) all has =
     let names = map (λ (e : ClaimedName). e.name) list in
@@ -200,7 +206,8 @@ module _ (design : Design) (model : Model) (all : are_distinct (claimed_names de
       ∙ ap₂ (λ (b : Bool) (cs : List Claim). (if b then port ∷ [] else []) ++ cs) is (none_in name (claim_list design model) (ports_apart name is))
 
   -- what a gate or latch drives has the one claim of that item
-  pub driven_claims : (number : ℕ) (item : Item) → slice_get model.items number ≡ Some item → is_cell item ≡ true → claims design model (driven_name item) ≡ driven number ∷ []
+  pub driven_claims : (number : ℕ) (item : Item) → slice_get model.items number ≡ Some item → is_cell item ≡ true
+      → claims design model (driven_name item) ≡ driven number ∷ []
   driven_claims number item at cell =
       let entry = item_entry model.items number item at in
       let listed : ClaimedName = record { name = driven_name item; claim = driven number } in
@@ -216,7 +223,8 @@ module _ (design : Design) (model : Model) (all : are_distinct (claimed_names de
 
   -- a name that is bound to an output of a placed model has the one claim of that output
   pub bound_claims : (before : ℕ) (placing : Placing) → slice_get (placings model.items) before ≡ Some placing → (bind : Bind) → Has bind placing.binds
-      → has_name (model_outputs (model_named design.models placing.model)) bind.formal ≡ true → claims design model bind.actual ≡ bound (suc before) bind.formal ∷ []
+      → has_name (model_outputs (model_named design.models placing.model)) bind.formal ≡ true
+      → claims design model bind.actual ≡ bound (suc before) bind.formal ∷ []
   bound_claims before placing at bind has output =
       let entry = placing_entry model.items before placing at in
       let outputs = model_outputs (model_named design.models placing.model) in
@@ -248,7 +256,8 @@ not_bound : (place : ℕ) (formal : Word) (number : ℕ) → bound place formal 
 not_bound place formal number e = cc
 
 -- a claim of an item, in the list of a numbered item, is of that item
-driven_entry : (design : Design) (model : Model) (number : ℕ) (listed : ClaimedName) → listed.claim ≡ driven number → (entry : Numbered) → IsEntry model.items entry → (item : Item) → entry.item ≡ item
+driven_entry : (design : Design) (model : Model) (number : ℕ) (listed : ClaimedName) → listed.claim ≡ driven number → (entry : Numbered)
+    → IsEntry model.items entry → (item : Item) → entry.item ≡ item
     → Has listed (item_entries design entry.number entry.before item) → DrivesName model number listed.name
 driven_entry design model number listed claims entry is (Names line ins out cover) same has =
     ⊎_elim (λ here. record {

@@ -40,7 +40,8 @@ of_inside list below base path entry has (Sub line model binds) is site in_it fo
   within = ap (inside below base entry.before) is;
 }
 
-pub stands_below : (list : List Numbered) (below : Path → List Site) (base path : Path) → Has path (paths_of (flat_map (with_inside below base) list)) → IsBelow list below base path
+pub stands_below : (list : List Numbered) (below : Path → List Site) (base path : Path)
+    → Has path (paths_of (flat_map (with_inside below base) list)) → IsBelow list below base path
 stands_below list below base path has =
     let placed_by = from-flat_map (λ s. instances_at s.path s.before s.item) (flat_map (with_inside below base) list) path has in
     let in_entry = from-flat_map (with_inside below base) list placed_by.0 placed_by.1 in
@@ -72,25 +73,29 @@ module _ (design : Design) where
       ⊎_elim root deeper listed
 
   -- what stands at a place of an instance comes from an item of it
-  placed_by : (place : ℕ) (path : Path) (here : Option Model) → model_at design path ≡ here → (model : Model) → option_and_then (model_placed design place) here ≡ Some model
+  placed_by : (place : ℕ) (path : Path) (here : Option Model) → model_at design path ≡ here → (model : Model)
+      → option_and_then (model_placed design place) here ≡ Some model
       → (above : Model) × (model_at design path ≡ Some above) × (model_placed design place above ≡ Some model)
   placed_by place path None is model stands = absurd (none-some model stands)
   placed_by place path (Some above) is model stands = (above, is, stands)
 
-  pub placer : (place : ℕ) (path : Path) (model : Model) → model_at design (place ∷ path) ≡ Some model → (above : Model) × (model_at design path ≡ Some above) × (model_placed design place above ≡ Some model)
+  pub placer : (place : ℕ) (path : Path) (model : Model) → model_at design (place ∷ path) ≡ Some model
+      → (above : Model) × (model_at design path ≡ Some above) × (model_placed design place above ≡ Some model)
   placer place path model stands = placed_by place path (model_at design path) refl model stands
 
   pub placing_of_placed : (place : ℕ) (above model : Model) → model_placed design place above ≡ Some model
       → (before : ℕ) × (placing : Placing) × (place ≡ suc before) × (slice_get (placings above.items) before ≡ Some placing) × (model_named design.models placing.model ≡ Some model)
   placing_of_placed zero above model stands = absurd (none-some model stands)
   placing_of_placed (suc before) above model stands = by (slice_get (placings above.items) before) refl stands where
-    by : (found : Option Placing) → slice_get (placings above.items) before ≡ found → option_and_then (λ p. model_named design.models p.model) found ≡ Some model
+    by : (found : Option Placing) → slice_get (placings above.items) before ≡ found
+        → option_and_then (λ p. model_named design.models p.model) found ≡ Some model
         → (b : ℕ) × (placing : Placing) × (suc before ≡ suc b) × (slice_get (placings above.items) b ≡ Some placing) × (model_named design.models placing.model ≡ Some model)
     by None is named = absurd (none-some model named)
     by (Some placing) is named = (before, placing, refl, is, named)
 
   -- an instance that isn't too deep is listed
-  pub path_listed : (depth : ℕ) (path : Path) (model : Model) → model_at design path ≡ Some model → length path ≤ depth → Has path ([] ∷ paths_of (sites_below design depth []))
+  pub path_listed : (depth : ℕ) (path : Path) (model : Model) → model_at design path ≡ Some model → length path ≤ depth
+      → Has path ([] ∷ paths_of (sites_below design depth []))
   path_listed depth [] model stands deep = inl refl
   path_listed depth (place ∷ path) model stands deep =
       let above = placer place path model stands in
@@ -105,11 +110,13 @@ module _ (design : Design) where
       inr (Has-flat_map (λ s. instances_at s.path s.before s.item) (site_at path entry.entry) (sites_below design depth []) (place ∷ path) site at)
 
   -- in the whole design
-  pub instance_listed : (path : Path) (model : Model) → model_at design path ≡ Some model → length path ≤ 65 + length design.models → Has path (instances design)
+  pub instance_listed : (path : Path) (model : Model) → model_at design path ≡ Some model → length path ≤ 65 + length design.models
+      → Has path (instances design)
   unfolding sites
   instance_listed path model stands deep = path_listed (65 + length design.models) path model stands deep
 
-  pub item_listed : (path : Path) → Has path (instances design) → length path < 65 + length design.models → (entry : Numbered) → Has entry (numbered 0 0 (items_of (model_at design path)))
+  pub item_listed : (path : Path) → Has path (instances design) → length path < 65 + length design.models → (entry : Numbered)
+      → Has entry (numbered 0 0 (items_of (model_at design path)))
       → Has (site_at path entry) (sites design)
   unfolding sites
   item_listed path listed deep entry has = site_listed (65 + length design.models) [] path listed (omega arith) entry has

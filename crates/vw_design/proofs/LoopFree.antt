@@ -71,7 +71,8 @@ module _ (design : Design) where
         met.within number (subst (λ (n : ℕ). Has n numbers) (sym (eqb-true number found.0 found.2)) found.1)
 
   -- two items with one number are one
-  same_gate : (one other : Gate) (number : ℕ) → place_of_site (cells design) one.path one.number ≡ Some number → place_of_site (cells design) other.path other.number ≡ Some number → one ≡ other
+  same_gate : (one other : Gate) (number : ℕ) → place_of_site (cells design) one.path one.number ≡ Some number
+      → place_of_site (cells design) other.path other.number ≡ Some number → one ≡ other
   same_gate one other number at_one at_other =
       let a = site_of_place (cells design) one.path one.number number at_one in
       let b = site_of_place (cells design) other.path other.number number at_other in
@@ -79,7 +80,8 @@ module _ (design : Design) where
       ap₂ (λ (p : Path) (n : ℕ). record { path = p; number = n }) (sym a.2 ∙ ap (λ (s : Site). s.path) same ∙ b.2) (sym a.3 ∙ ap (λ (s : Site). s.number) same ∙ b.3)
 
   -- one gate more
-  met_more : (gates : List Gate) (numbers : List ℕ) (gate : Gate) (number : ℕ) → IsMet gates numbers → place_of_site (cells design) gate.path gate.number ≡ Some number
+  met_more : (gates : List Gate) (numbers : List ℕ) (gate : Gate) (number : ℕ) → IsMet gates numbers
+      → place_of_site (cells design) gate.path gate.number ≡ Some number
       → list_any (eqb number) numbers ≡ false → IsMet (gates ++ gate ∷ []) (number ∷ numbers)
   met_more gates numbers gate number met at new = record {
     distinct = distinct_more number numbers new met.distinct;
@@ -138,7 +140,8 @@ module _ (design : Design) (accepted : IsAccepted design) (free : IsLoopFree des
       → (item : Option Item) → item_at design path number ≡ item
       → ((place : ℕ) → IsMet design (gates ++ record { path = path; number = number } ∷ []) (place ∷ numbers) → (name : Word)
       → ((gate : Gate) → driver design path name ≡ Some (at_cell gate.path gate.number) → ReadAlong design (gates ++ record { path = path; number = number } ∷ []) gate) → Stays left path name)
-      → (one other : ℕ) → left ≤ one → left ≤ other → item_value design state (path_level one design row state) path number item ≡ item_value design state (path_level other design row state) path number item
+      → (one other : ℕ) → left ≤ one → left ≤ other
+      → item_value design state (path_level one design row state) path number item ≡ item_value design state (path_level other design row state) path number item
   item_stays left gates numbers met path number leads None is further one other late late_other = refl
   item_stays left gates numbers met path number leads (Some (Names line ins out cover)) is further one other late late_other =
       ap (cover_value cover) (map_same (path_level one design row state path) (path_level other design row state path) ins
@@ -150,7 +153,8 @@ module _ (design : Design) (accepted : IsAccepted design) (free : IsLoopFree des
       → ((gate : Gate) → source ≡ Some (at_cell gate.path gate.number) → ReadAlong design gates gate)
       → ((path : Path) (number place : ℕ) → IsMet design (gates ++ record { path = path; number = number } ∷ []) (place ∷ numbers) → (name : Word)
       → ((gate : Gate) → driver design path name ≡ Some (at_cell gate.path gate.number) → ReadAlong design (gates ++ record { path = path; number = number } ∷ []) gate) → Stays left path name)
-      → (one other : ℕ) → left ≤ one → left ≤ other → source_value design row state (path_level one design row state) source ≡ source_value design row state (path_level other design row state) source
+      → (one other : ℕ) → left ≤ one → left ≤ other
+      → source_value design row state (path_level one design row state) source ≡ source_value design row state (path_level other design row state) source
   source_stays left gates numbers met None leads further one other late late_other = refl
   source_stays left gates numbers met (Some (at_port name)) leads further one other late late_other = refl
   source_stays left gates numbers met (Some (at_cell path number)) leads further one other late late_other =
@@ -158,7 +162,9 @@ module _ (design : Design) (accepted : IsAccepted design) (free : IsLoopFree des
 
   -- with so many cells left that weren't met, so many levels are enough
   settles : (left : ℕ) (gates : List Gate) (numbers : List ℕ) → IsMet design gates numbers → length numbers + left ≡ length (cells design)
-      → (path : Path) (name : Word) → ((gate : Gate) → driver design path name ≡ Some (at_cell gate.path gate.number) → ReadAlong design gates gate) → Stays (left + 1) path name
+      → (path : Path) (name : Word)
+      → ((gate : Gate) → driver design path name ≡ Some (at_cell gate.path gate.number) → ReadAlong design gates gate)
+      → Stays (left + 1) path name
   settles zero gates numbers met count path name leads =
       one_up 0 path name (driver design path name) refl (source_stays 0 gates numbers met (driver design path name) leads
       (λ p n place more name leads. absurd (omega (arith, few_met design (gates ++ record { path = p; number = n } ∷ []) (place ∷ numbers) more))))
@@ -168,15 +174,18 @@ module _ (design : Design) (accepted : IsAccepted design) (free : IsLoopFree des
       settles left (gates ++ record { path = p; number = n } ∷ []) (place ∷ numbers) more (omega arith) p name leads one other (omega arith) (omega arith)))
 
   -- at every level past the number of cells
-  pub level_settles : (level : ℕ) (path : Path) (name : Word) → length (cells design) + 1 ≤ level → path_level level design row state path name ≡ path_value design row state path name
+  pub level_settles : (level : ℕ) (path : Path) (name : Word) → length (cells design) + 1 ≤ level
+      → path_level level design row state path name ≡ path_value design row state path name
   unfolding path_value
   level_settles level path name late =
       let none : IsMet design [] [] = record { distinct = once_none; within = λ n has. absurd has; gate_of = λ n has. absurd has } in
       settles (length (cells design)) [] [] none (omega arith) path name (λ gate drives. tt) level (length (cells design) + 1) late (omega arith)
 
   -- a net that a gate drives has its table's value of the values of the gate's inputs
-  pub gate_value : (path : Path) (name : Word) (at : Path) (number line : ℕ) (ins : List Word) (out : Word) (cover : Cover) → driver design path name ≡ Some (at_cell at number)
-      → item_at design at number ≡ Some (Names line ins out cover) → path_value design row state path name ≡ cover_value cover (map (path_value design row state at) ins)
+  pub gate_value : (path : Path) (name : Word) (at : Path) (number line : ℕ) (ins : List Word) (out : Word) (cover : Cover)
+      → driver design path name ≡ Some (at_cell at number)
+      → item_at design at number ≡ Some (Names line ins out cover)
+      → path_value design row state path name ≡ cover_value cover (map (path_value design row state at) ins)
   unfolding path_value
   gate_value path name at number line ins out cover drives is =
       let deeper = level_settles (suc (length (cells design) + 1)) path name (omega arith) in

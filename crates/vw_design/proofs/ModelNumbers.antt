@@ -20,7 +20,8 @@ name_listed [] k model at = absurd (none-some model at)
 name_listed (first ∷ models) zero model at = inl (ap (λ (m : Model). m.name) (same_Some first model at))
 name_listed (first ∷ models) (suc k) model at = inr (name_listed models k model at)
 
-place_at : (models : List Model) (k : ℕ) (model : Model) → are_distinct (map (λ m. m.name) models) ≡ true → slice_get models k ≡ Some model → position_or_len (λ m. bytes_eq m.name model.name) models ≡ k
+place_at : (models : List Model) (k : ℕ) (model : Model) → are_distinct (map (λ m. m.name) models) ≡ true → slice_get models k ≡ Some model
+    → position_or_len (λ m. bytes_eq m.name model.name) models ≡ k
 place_at [] k model distinct at = absurd (none-some model at)
 place_at (first ∷ models) zero model distinct at =
     ap (λ (b : Bool). cond (not b) (1 + position_or_len (λ (m : Model). bytes_eq m.name model.name) models) 0) (equal_names first.name model.name (ap (λ (m : Model). m.name) (same_Some first model at)))
@@ -28,7 +29,8 @@ place_at (first ∷ models) (suc k) model distinct at =
     let parts = and_parts (not (has_name (map (λ (m : Model). m.name) models) first.name)) (are_distinct (map (λ (m : Model). m.name) models)) distinct in
     by (bytes_eq first.name model.name) refl (not-true (has_name (map (λ (m : Model). m.name) models) first.name) parts.0) (place_at models k model parts.1 at)
   where
-    by : (b : Bool) → bytes_eq first.name model.name ≡ b → has_name (map (λ (m : Model). m.name) models) first.name ≡ false → position_or_len (λ (m : Model). bytes_eq m.name model.name) models ≡ k
+    by : (b : Bool) → bytes_eq first.name model.name ≡ b → has_name (map (λ (m : Model). m.name) models) first.name ≡ false
+        → position_or_len (λ (m : Model). bytes_eq m.name model.name) models ≡ k
         → cond (not b) (1 + position_or_len (λ (m : Model). bytes_eq m.name model.name) models) 0 ≡ suc k
     by true is fresh rest =
         let among = has_name-Has (map (λ (m : Model). m.name) models) first.name
@@ -46,7 +48,8 @@ module _ (design : Design) where
   pub named_at : (k : ℕ) (model : Model) → slice_get design.models k ≡ Some model → model_named design.models model.name ≡ Some model
   named_at k model at = model_of_place model.name ∙ ap (slice_get design.models) (place_of_model k model at) ∙ at
 
-  pub same_number : (i j : ℕ) (one other : Model) → slice_get design.models i ≡ Some one → slice_get design.models j ≡ Some other → one.name ≡ other.name → i ≡ j
+  pub same_number : (i j : ℕ) (one other : Model) → slice_get design.models i ≡ Some one → slice_get design.models j ≡ Some other
+      → one.name ≡ other.name → i ≡ j
   same_number i j one other at_i at_j same = sym (place_of_model i one at_i) ∙ ap (place_in_file design) same ∙ place_of_model j other at_j
 
   pub name_of_named : (name : Word) (model : Model) → model_named design.models name ≡ Some model → model.name ≡ name

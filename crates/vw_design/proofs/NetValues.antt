@@ -48,29 +48,36 @@ module _ (design : Design) (row state : List Bool) where
   undriven_value path name none = by_driver path name None none
 
   -- a net that a port of the root drives has the bit of the port's column
-  pub column_value : (path : Path) (name column : Word) → driver design path name ≡ Some (at_port column) → path_value design row state path name ≡ bit_at row (place_of_name (columns design) column)
+  pub column_value : (path : Path) (name column : Word) → driver design path name ≡ Some (at_port column)
+      → path_value design row state path name ≡ bit_at row (place_of_name (columns design) column)
   column_value path name column drives = by_driver path name (Some (at_port column)) drives
 
   -- a net that an item drives has what the item gives it
-  pub item_value_of : (path : Path) (name : Word) (at : Path) (number : ℕ) (item : Item) → driver design path name ≡ Some (at_cell at number) → item_at design at number ≡ Some item
+  pub item_value_of : (path : Path) (name : Word) (at : Path) (number : ℕ) (item : Item)
+      → driver design path name ≡ Some (at_cell at number) → item_at design at number ≡ Some item
       → path_value design row state path name ≡ item_value design state (path_level (length (cells design)) design row state) at number (Some item)
   item_value_of path name at number item drives is =
       by_driver path name (Some (at_cell at number)) drives ∙ ap (item_value design state (path_level (length (cells design)) design row state) at number) is
 
   -- at each level a gate gives its net its table's value of what it reads one level lower
-  pub gate_level : (level : ℕ) (path : Path) (name : Word) (at : Path) (number line : ℕ) (ins : List Word) (out : Word) (cover : Cover) → driver design path name ≡ Some (at_cell at number)
-      → item_at design at number ≡ Some (Names line ins out cover) → path_level (suc level) design row state path name ≡ cover_value cover (map (path_level level design row state at) ins)
+  pub gate_level : (level : ℕ) (path : Path) (name : Word) (at : Path) (number line : ℕ) (ins : List Word) (out : Word) (cover : Cover)
+      → driver design path name ≡ Some (at_cell at number)
+      → item_at design at number ≡ Some (Names line ins out cover)
+      → path_level (suc level) design row state path name ≡ cover_value cover (map (path_level level design row state at) ins)
   gate_level level path name at number line ins out cover drives is =
       ap (source_value design row state (path_level level design row state)) drives ∙ ap (item_value design state (path_level level design row state) at number) is
 
   -- a net that a latch drives has the latch's bit of the state
-  pub latch_value : (path : Path) (name : Word) (at : Path) (number line : ℕ) (d q : Word) (edge : Edge) (control : Option Word) (init : Init) → driver design path name ≡ Some (at_cell at number)
-      → item_at design at number ≡ Some (Latch line d q edge control init) → path_value design row state path name ≡ bit_at state (place_of_site (latches design) at number)
+  pub latch_value : (path : Path) (name : Word) (at : Path) (number line : ℕ) (d q : Word) (edge : Edge) (control : Option Word) (init : Init)
+      → driver design path name ≡ Some (at_cell at number)
+      → item_at design at number ≡ Some (Latch line d q edge control init)
+      → path_value design row state path name ≡ bit_at state (place_of_site (latches design) at number)
   latch_value path name at number line d q edge control init drives is = item_value_of path name at number (Latch line d q edge control init) drives is
 
   module _ (faultless : HasNoModelFault design) where
     -- a port of a placed model has the value of its actual, in the instance above
-    pub port_value : (place : ℕ) (path : Path) (name actual : Word) → first_claim design (model_at design (place ∷ path)) name ≡ Some port → actual_of design place path name ≡ Some actual
+    pub port_value : (place : ℕ) (path : Path) (name actual : Word) → first_claim design (model_at design (place ∷ path)) name ≡ Some port
+        → actual_of design place path name ≡ Some actual
         → path_value design row state (place ∷ path) name ≡ path_value design row state path actual
     port_value place path name actual is above = same_value (place ∷ path) name path actual (port_driver design faultless place path name actual is above)
 
@@ -93,7 +100,8 @@ module _ (design : Design) (path : Path) (number : ℕ) (item : Item) (has : Has
   start_bit unknown = at_latch (λ (s : Site). latch_start unknown s.item) ∙ ap (latch_start unknown) has.item_is
 
   -- its bit after a clock is what it took
-  pub next_bit : (row state : List Bool) → bit_at (path_next design row state) (place_of_site (latches design) path number) ≡ latch_next (path_value design row state path) item
+  pub next_bit : (row state : List Bool)
+      → bit_at (path_next design row state) (place_of_site (latches design) path number) ≡ latch_next (path_value design row state path) item
   next_bit row state =
       at_latch (λ (s : Site). latch_next (path_value design row state s.path) s.item)
       ∙ ap (λ (p : Path). latch_next (path_value design row state p) has.site.item) has.path_is
@@ -101,14 +109,16 @@ module _ (design : Design) (path : Path) (number : ℕ) (item : Item) (has : Has
 
 module _ (design : Design) (path : Path) (number line : ℕ) (d q : Word) (edge : Edge) (control : Option Word) (init : Init) (has : HasLatchPlace design path number (Latch line d q edge control init)) where
   -- a net that a latch drives starts with its initial value
-  pub first_value : (unknown : Bool) (row : List Bool) (at : Path) (name : Word) → driver design at name ≡ Some (at_cell path number) → item_at design path number ≡ Some (Latch line d q edge control init)
+  pub first_value : (unknown : Bool) (row : List Bool) (at : Path) (name : Word) → driver design at name ≡ Some (at_cell path number)
+      → item_at design path number ≡ Some (Latch line d q edge control init)
       → path_value design row (path_start unknown design) at name ≡ start_value unknown init
   first_value unknown row at name drives is =
       latch_value design row (path_start unknown design) at name path number line d q edge control init drives is
       ∙ start_bit design path number (Latch line d q edge control init) has unknown
 
   -- and has after a clock what the latch's data input had in that clock
-  pub value_after : (row state after : List Bool) (at : Path) (name : Word) → driver design at name ≡ Some (at_cell path number) → item_at design path number ≡ Some (Latch line d q edge control init)
+  pub value_after : (row state after : List Bool) (at : Path) (name : Word) → driver design at name ≡ Some (at_cell path number)
+      → item_at design path number ≡ Some (Latch line d q edge control init)
       → path_value design after (path_next design row state) at name ≡ path_value design row state path d
   value_after row state after at name drives is =
       latch_value design after (path_next design row state) at name path number line d q edge control init drives is

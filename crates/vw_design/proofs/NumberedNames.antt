@@ -22,14 +22,16 @@ glyph_digit : (number : ℕ) → IsDigit (digit_glyph false (number % 10))
 glyph_digit number = subst IsDigit (sym (glyph number)) (omega arith, omega arith)
 
 -- digits before others
-digits_before : (steps number : ℕ) (others : List ℕ) → ((byte : ℕ) → Has byte others → IsDigit byte) → (byte : ℕ) → Has byte (digits_onto steps 10 false number others) → IsDigit byte
+digits_before : (steps number : ℕ) (others : List ℕ) → ((byte : ℕ) → Has byte others → IsDigit byte) → (byte : ℕ)
+    → Has byte (digits_onto steps 10 false number others) → IsDigit byte
 digits_before zero number others all = all
 digits_before (suc steps) number others all = by (number / 10 == 0) (digits_before steps (number / 10) (digit_glyph false (number % 10) ∷ others) more) where
   more : (byte : ℕ) → Has byte (digit_glyph false (number % 10) ∷ others) → IsDigit byte
   more byte has = ⊎_elim (λ same. subst IsDigit same (glyph_digit number)) (all byte) has
 
   by : (last : Bool) → ((byte : ℕ) → Has byte (digits_onto steps 10 false (number / 10) (digit_glyph false (number % 10) ∷ others)) → IsDigit byte) → (byte : ℕ)
-      → Has byte (if last then digit_glyph false (number % 10) ∷ others else digits_onto steps 10 false (number / 10) (digit_glyph false (number % 10) ∷ others)) → IsDigit byte
+      → Has byte (if last then digit_glyph false (number % 10) ∷ others else digits_onto steps 10 false (number / 10) (digit_glyph false (number % 10) ∷ others))
+      → IsDigit byte
   by true further = more
   by false further = further
 
@@ -52,7 +54,8 @@ tail_same : {a b : ℕ} {xs ys : Word} → a ∷ xs ≡ b ∷ ys → xs ≡ ys
 tail_same e = cc
 
 -- words that go on behind a sign that isn't in their fronts have the same fronts, and go on alike
-pub cut_same : (sign : ℕ) (front other : Word) (more others : Word) → (Has sign front → ⊥) → (Has sign other → ⊥) → front ++ sign ∷ more ≡ other ++ sign ∷ others → (front ≡ other) × (more ≡ others)
+pub cut_same : (sign : ℕ) (front other : Word) (more others : Word) → (Has sign front → ⊥) → (Has sign other → ⊥)
+    → front ++ sign ∷ more ≡ other ++ sign ∷ others → (front ≡ other) × (more ≡ others)
 cut_same sign [] [] more others none none_too same = (refl, tail_same same)
 cut_same sign [] (b ∷ other) more others none none_too same = absurd (none_too (inl (sym (head_same same))))
 cut_same sign (a ∷ front) [] more others none none_too same = absurd (none (inl (head_same same)))
@@ -84,7 +87,8 @@ AreSmall [] = Unit {0}
 AreSmall (number ∷ numbers) = (number < 2 ^ 64) × AreSmall numbers
 
 -- joined numbers that are the same are the same numbers
-joined_same : (one : ℕ) (more : List ℕ) (other : ℕ) (others : List ℕ) → AreSmall (one ∷ more) → AreSmall (other ∷ others) → joined_numbers one more ≡ joined_numbers other others
+joined_same : (one : ℕ) (more : List ℕ) (other : ℕ) (others : List ℕ) → AreSmall (one ∷ more) → AreSmall (other ∷ others)
+    → joined_numbers one more ≡ joined_numbers other others
     → (one ≡ other) × (more ≡ others)
 joined_same one [] other [] small small_too same = (decimal_injective one other small.0 small_too.0 same, refl)
 joined_same one [] other (next ∷ others) small small_too same = absurd (no_cut 95 (decimal other) (joined_numbers next others) (decimal one) (no_sign one) (sym same))

@@ -26,7 +26,8 @@ record IsCutAt (number before : ℕ) (items : List Item) (entry : Numbered) : Ty
   before_is : entry.before ≡ before + length (placings (take count items))
   whole : numbered number before items ≡ numbered number before (take count items) ++ (entry ∷ after)
 
-one_before : (before : ℕ) (item : Item) (items : List Item) (k : ℕ) → and_behind item before + length (placings (take k items)) ≡ before + length (placings (take (suc k) (item ∷ items)))
+one_before : (before : ℕ) (item : Item) (items : List Item) (k : ℕ)
+    → and_behind item before + length (placings (take k items)) ≡ before + length (placings (take (suc k) (item ∷ items)))
 one_before before (Names line ins out cover) items k = refl
 one_before before (Latch line d q edge control init) items k = refl
 one_before before (Sub line name binds) items k = omega arith
@@ -57,7 +58,8 @@ cut_entry number before (item ∷ items) entry has =
     ⊎_elim first later has
 
 -- the element behind what is kept of a front
-kept_behind : {A : Type 0} (keep : A → Bool) (front rest : List A) (x : A) → keep x ≡ true → slice_get (filter keep (front ++ x ∷ rest)) (length (filter keep front)) ≡ Some x
+kept_behind : {A : Type 0} (keep : A → Bool) (front rest : List A) (x : A) → keep x ≡ true
+    → slice_get (filter keep (front ++ x ∷ rest)) (length (filter keep front)) ≡ Some x
 kept_behind {A} keep front rest x kept =
     ap (λ (list : List A). slice_get list (length (filter keep front)))
     (filter-append keep front (x ∷ rest) ∙ ap (λ (b : Bool). filter keep front ++ cond b (x ∷ filter keep rest) (filter keep rest)) kept)
@@ -69,7 +71,8 @@ module _ (design : Design) where
     front : List Site
     rest : List Site
     whole : sites_below design (suc depth) path ≡ front ++ (site_at path entry ∷ rest)
-    weighs : (weight : Item → ℕ) → weight_of weight front ≡ items_weight weight (model_weight design weight depth) (take entry.number (items_of (model_at design path)))
+    weighs : (weight : Item → ℕ)
+        → weight_of weight front ≡ items_weight weight (model_weight design weight depth) (take entry.number (items_of (model_at design path)))
 
   cut_site : (depth : ℕ) (path : Path) (entry : Numbered) → Has entry (numbered 0 0 (items_of (model_at design path))) → IsCutSite depth path entry
   cut_site depth path entry has =
@@ -90,7 +93,8 @@ module _ (design : Design) where
       }
 
   -- where the sites of an instance stand behind some sites of the design
-  cut_design : (before after : List Site) (depth : ℕ) (path : Path) → sites design ≡ before ++ (sites_below design (suc depth) path ++ after) → (entry : Numbered) → (cut : IsCutSite depth path entry)
+  cut_design : (before after : List Site) (depth : ℕ) (path : Path)
+      → sites design ≡ before ++ (sites_below design (suc depth) path ++ after) → (entry : Numbered) → (cut : IsCutSite depth path entry)
       → sites design ≡ (before ++ cut.front) ++ (site_at path entry ∷ (cut.rest ++ after))
   cut_design before after depth path all entry cut =
       all ∙ ap (λ (list : List Site). before ++ (list ++ after)) cut.whole
@@ -151,7 +155,8 @@ module _ (design : Design) where
   -- the number of an instance that an item places: the root, the instances before its parent's items, and what the items
   -- before it weigh
   entry_number : (before after : List Site) (depth : ℕ) (path : Path) → sites design ≡ before ++ (sites_below design (suc depth) path ++ after)
-      → (entry : Numbered) → Has entry (numbered 0 0 (items_of (model_at design path))) → (line : ℕ) (name : Word) (binds : List Bind) → entry.item ≡ Sub line name binds
+      → (entry : Numbered) → Has entry (numbered 0 0 (items_of (model_at design path))) → (line : ℕ) (name : Word) (binds : List Bind)
+      → entry.item ≡ Sub line name binds
       → slice_get (instances design) (1 + (weight_of placed_one before + items_weight placed_one (model_weight design placed_one depth) (take entry.number (items_of (model_at design path)))))
       ≡ Some (suc entry.before ∷ path)
   entry_number before after depth path all entry has line name binds is =

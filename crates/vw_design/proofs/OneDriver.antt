@@ -22,7 +22,8 @@ abbrev pub claimed_names : Design → Model → List Word
 claimed_names design model = (model.inputs ++ model.clocks) ++ flat_map (claimed_by design) model.items
 
 -- of distinct names none stands twice, and none stands before where the two lists have no common name
-pub none_again : (before names : List Word) → are_distinct names ≡ true → ((name : Word) → Has name before → Has name names → ⊥) → first_again before names ≡ None
+pub none_again : (before names : List Word) → are_distinct names ≡ true → ((name : Word) → Has name before → Has name names → ⊥)
+    → first_again before names ≡ None
 none_again before [] all apart = refl
 none_again before (name ∷ names) all apart =
     let fresh = none_named before name (λ has. apart name has (inl refl)) in
@@ -31,7 +32,8 @@ none_again before (name ∷ names) all apart =
     (λ other has later. ⊎_elim (λ same. distinct_first name names all (subst (λ (w : Word). Has w names) (sym same) later)) (λ earlier. apart other earlier (inr later)) has)
 
 -- an item claims nothing again where all names that its model claims are different
-pub none_again_at : (design : Design) (model : Model) → are_distinct (claimed_names design model) ≡ true → (k : ℕ) (item : Item) → slice_get model.items k ≡ Some item
+pub none_again_at : (design : Design) (model : Model) → are_distinct (claimed_names design model) ≡ true → (k : ℕ) (item : Item)
+    → slice_get model.items k ≡ Some item
     → first_again (claimed_before design (Some model) k) (claimed_by design item) ≡ None
 none_again_at design model all k item at =
     let ports = model.inputs ++ model.clocks in
@@ -46,11 +48,14 @@ none_again_at design model all k item at =
     (λ name has has_too. distinct_apart (ports ++ front) (mine ++ rest) different name has (Has-left name mine rest has_too))
 
 -- so no net of the design has two drivers
-pub one_driver_each : (design : Design) → ((path : Path) (model : Model) → model_at design path ≡ Some model → are_distinct (claimed_names design model) ≡ true) → two_drivers design ≡ None
+pub one_driver_each : (design : Design)
+    → ((path : Path) (model : Model) → model_at design path ≡ Some model → are_distinct (claimed_names design model) ≡ true)
+    → two_drivers design ≡ None
 one_driver_each design all =
     found_nowhere (claimed_again design) (sites design) (λ k site at. by site (site_item design site (Has-at site (sites design) k at)) (model_at design site.path) refl)
   where
-    by : (site : Site) → item_at design site.path site.number ≡ Some site.item → (found : Option Model) → model_at design site.path ≡ found → claimed_again design site ≡ None
+    by : (site : Site) → item_at design site.path site.number ≡ Some site.item → (found : Option Model) → model_at design site.path ≡ found
+        → claimed_again design site ≡ None
     by site item None stands = absurd (none-some site.item (sym (ap (λ (m : Option Model). slice_get (items_of m) site.number) stands) ∙ item))
     by site item (Some model) stands =
         let at : slice_get model.items site.number ≡ Some site.item = sym (ap (λ (m : Option Model). slice_get (items_of m) site.number) stands) ∙ item in

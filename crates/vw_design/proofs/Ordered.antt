@@ -41,7 +41,8 @@ module _ (design : Design) (accepted : IsAccepted design) (watched : List Net) (
     cell_gate : is_gate (slice_get flat.cells place) ≡ true
 
   -- what reads is a gate
-  reader_by : (gate next : Gate) (item : Option Item) → item_at design gate.path gate.number ≡ item → reads_from design gate.path next item ≡ true → IsListedGate gate
+  reader_by : (gate next : Gate) (item : Option Item) → item_at design gate.path gate.number ≡ item
+      → reads_from design gate.path next item ≡ true → IsListedGate gate
   reader_by gate next None is reads = absurd (true≢false (sym reads))
   reader_by gate next (Some (LatchItem line d q edge control init)) is reads = absurd (true≢false (sym reads))
   reader_by gate next (Some (Sub line model binds)) is reads = absurd (true≢false (sym reads))
@@ -97,7 +98,8 @@ module _ (design : Design) (accepted : IsAccepted design) (watched : List Net) (
       }
 
   -- a gate stands behind the gates that it reads
-  earlier : (gate next : Gate) (a : IsListedGate gate) (b : IsListedGate next) → gate_reads design gate next ≡ true → (index : ℕ) → index < length order → slice_index order index ≡ a.place → StandsInOrder b.place index
+  earlier : (gate next : Gate) (a : IsListedGate gate) (b : IsListedGate next) → gate_reads design gate next ≡ true → (index : ℕ)
+      → index < length order → slice_index order index ≡ a.place → StandsInOrder b.place index
   earlier gate next a b reads index within is =
       let nets = read_nets_at (slice_get flat.cells a.place) in
       let agree = reads_agree design watched flat made a.place b.place a.site b.site a.at b.at a.line a.ins a.out a.cover a.item in
@@ -118,12 +120,15 @@ module _ (design : Design) (accepted : IsAccepted design) (watched : List Net) (
       placed_among b.place index (omega arith) among
 
   -- the first gate of some that lead to another is one
-  first_gate : (gate : Gate) (gates : List Gate) (last : Gate) → AllZip (λ one next. gate_reads design one next ≡ true) (gate ∷ gates) (gates ++ last ∷ []) → IsListedGate gate
+  first_gate : (gate : Gate) (gates : List Gate) (last : Gate)
+      → AllZip (λ one next. gate_reads design one next ≡ true) (gate ∷ gates) (gates ++ last ∷ []) → IsListedGate gate
   first_gate gate [] last leads = reader gate last leads.0
   first_gate gate (next ∷ gates) last leads = reader gate next leads.0
 
   -- along gates of which each reads the next, places in the order fall
-  falls : (gate : Gate) (gates : List Gate) (last : Gate) → AllZip (λ one next. gate_reads design one next ≡ true) (gate ∷ gates) (gates ++ last ∷ []) → (a : IsListedGate gate) (b : IsListedGate last)
+  falls : (gate : Gate) (gates : List Gate) (last : Gate)
+      → AllZip (λ one next. gate_reads design one next ≡ true) (gate ∷ gates) (gates ++ last ∷ [])
+      → (a : IsListedGate gate) (b : IsListedGate last)
       → (index : ℕ) → index < length order → slice_index order index ≡ a.place → StandsInOrder b.place index
   falls gate [] last leads a b index within is = earlier gate last a b leads.0 index within is
   falls gate (next ∷ gates) last leads a b index within is =

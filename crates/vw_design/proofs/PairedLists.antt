@@ -6,7 +6,8 @@ use Rattle.std.proofs.lemmas.Option.{same_Some, none-some}
 
 module _ {A B : Type 0} where
   -- what goes along with an element of the first
-  pub AllZip-at : (R : A → B → Type 0) (xs : List A) (ys : List B) (k : ℕ) (x : A) → AllZip R xs ys → slice_get xs k ≡ Some x → (y : B) × (slice_get ys k ≡ Some y) × R x y
+  pub AllZip-at : (R : A → B → Type 0) (xs : List A) (ys : List B) (k : ℕ) (x : A) → AllZip R xs ys → slice_get xs k ≡ Some x
+      → (y : B) × (slice_get ys k ≡ Some y) × R x y
   AllZip-at R [] ys k x along at = absurd (none-some x at)
   AllZip-at R (first ∷ xs) [] k x along at = absurd along
   AllZip-at R (first ∷ xs) (y ∷ ys) zero x along at = (y, refl, subst (λ (z : A). R z y) (same_Some first x at) along.0)
@@ -19,7 +20,8 @@ module _ {A B : Type 0} where
   AllZip-length R (x ∷ xs) (y ∷ ys) along = ap suc (AllZip-length R xs ys along.1)
 
   -- and with one of the second
-  pub AllZip-back : (R : A → B → Type 0) (xs : List A) (ys : List B) (k : ℕ) (y : B) → AllZip R xs ys → slice_get ys k ≡ Some y → (x : A) × (slice_get xs k ≡ Some x) × R x y
+  pub AllZip-back : (R : A → B → Type 0) (xs : List A) (ys : List B) (k : ℕ) (y : B) → AllZip R xs ys → slice_get ys k ≡ Some y
+      → (x : A) × (slice_get xs k ≡ Some x) × R x y
   AllZip-back R [] [] k y along at = absurd (none-some y at)
   AllZip-back R [] (first ∷ ys) k y along at = absurd along
   AllZip-back R (x ∷ xs) [] k y along at = absurd along
@@ -27,7 +29,8 @@ module _ {A B : Type 0} where
   AllZip-back R (x ∷ xs) (first ∷ ys) (suc k) y along at = AllZip-back R xs ys k y along.1 at
 
   -- from place to place
-  pub AllZip-each : (R : A → B → Type 0) (xs : List A) (ys : List B) → length xs ≡ length ys → ((k : ℕ) (x : A) (y : B) → slice_get xs k ≡ Some x → slice_get ys k ≡ Some y → R x y) → AllZip R xs ys
+  pub AllZip-each : (R : A → B → Type 0) (xs : List A) (ys : List B) → length xs ≡ length ys
+      → ((k : ℕ) (x : A) (y : B) → slice_get xs k ≡ Some x → slice_get ys k ≡ Some y → R x y) → AllZip R xs ys
   AllZip-each R [] [] long each = tt
   AllZip-each R [] (y ∷ ys) long each = absurd (omega arith)
   AllZip-each R (x ∷ xs) [] long each = absurd (omega arith)
@@ -53,21 +56,24 @@ module _ {A B : Type 0} where
   AllZip-push R (w ∷ xs) (z ∷ ys) x y along here = (along.0, AllZip-push R xs ys x y along.1 here)
 
 -- lists that go along with each other, one behind the other
-pub AllZip-append : {A B : Type 0} (R : A → B → Type 0) (xs more : List A) (ys others : List B) → AllZip R xs ys → AllZip R more others → AllZip R (xs ++ more) (ys ++ others)
+pub AllZip-append : {A B : Type 0} (R : A → B → Type 0) (xs more : List A) (ys others : List B) → AllZip R xs ys → AllZip R more others
+    → AllZip R (xs ++ more) (ys ++ others)
 AllZip-append R [] more [] others along rest = rest
 AllZip-append R [] more (y ∷ ys) others along rest = absurd along
 AllZip-append R (x ∷ xs) more [] others along rest = absurd along
 AllZip-append R (x ∷ xs) more (y ∷ ys) others along rest = (along.0, AllZip-append R xs more ys others along.1 rest)
 
 -- one more of the first goes along
-pub AllZip-take_more : {A B : Type 0} (R : A → B → Type 0) (xs : List A) (i : ℕ) (x : A) → i < length xs → x ≡ get_or xs i x → (ys : List B) → AllZip R (take i xs) ys → (y : B) → R x y → (new : List B) → new ≡ ys ++ y ∷ []
+pub AllZip-take_more : {A B : Type 0} (R : A → B → Type 0) (xs : List A) (i : ℕ) (x : A) → i < length xs → x ≡ get_or xs i x → (ys : List B)
+    → AllZip R (take i xs) ys → (y : B) → R x y → (new : List B) → new ≡ ys ++ y ∷ []
     → AllZip R (take (i + 1) xs) new
 AllZip-take_more {A} {B} R xs i x within at ys along y here new is =
     subst (λ (l : List B). AllZip R (take (i + 1) xs) l) (sym is)
     (subst (λ (l : List A). AllZip R l (ys ++ y ∷ [])) (sym (take_more xs i x within ∙ ap (λ (z : A). take i xs ++ z ∷ []) (sym at))) (AllZip-append R (take i xs) (x ∷ []) ys (y ∷ []) along (here, tt)))
 
 -- what is made of each
-pub AllZip-maps : {A B : Type 0} (R : A → A → Type 0) (S : B → B → Type 0) (value : A → B) (xs ys : List A) → ((x y : A) → R x y → S (value x) (value y)) → AllZip R xs ys → AllZip S (map value xs) (map value ys)
+pub AllZip-maps : {A B : Type 0} (R : A → A → Type 0) (S : B → B → Type 0) (value : A → B) (xs ys : List A)
+    → ((x y : A) → R x y → S (value x) (value y)) → AllZip R xs ys → AllZip S (map value xs) (map value ys)
 AllZip-maps R S value [] [] each along = tt
 AllZip-maps R S value [] (y ∷ ys) each along = absurd along
 AllZip-maps R S value (x ∷ xs) [] each along = absurd along

@@ -21,7 +21,8 @@ abbrev ArePathsOnce : List Path → Type 0
 ArePathsOnce [] = Unit {0}
 ArePathsOnce (path ∷ list) = ((other : Path) → Has other list → path ≡ other → ⊥) × ArePathsOnce list
 
-apart_append : (one other : List Path) → ArePathsOnce one → ArePathsOnce other → ((a b : Path) → Has a one → Has b other → a ≡ b → ⊥) → ArePathsOnce (one ++ other)
+apart_append : (one other : List Path) → ArePathsOnce one → ArePathsOnce other → ((a b : Path) → Has a one → Has b other → a ≡ b → ⊥)
+    → ArePathsOnce (one ++ other)
 apart_append [] other first second across = second
 apart_append (path ∷ one) other first second across =
     let from = λ (b : Path) (has : Has b (one ++ other)). ⊎_elim (λ left. first.0 b left) (λ right. across path b (inl refl) right) (Has-append b one other has) in
@@ -54,7 +55,8 @@ module _ (design : Design) where
       below.under
 
   -- a path that ends in a place is none that ends in a later one
-  ends_differ : (base : Path) (before : ℕ) (front path other : Path) → path ≡ front ++ (suc before ∷ base) → EndsBehind base (suc before) other → path ≡ other → ⊥
+  ends_differ : (base : Path) (before : ℕ) (front path other : Path) → path ≡ front ++ (suc before ∷ base)
+      → EndsBehind base (suc before) other → path ≡ other → ⊥
   ends_differ base before front path other is behind same =
       omega (arith, head_same (same_ends front behind.0 (suc before ∷ base) (suc behind.1 ∷ base) (sym is ∙ same ∙ behind.3) refl), behind.2)
 
@@ -95,7 +97,8 @@ module _ (design : Design) where
       )
 
 -- so the first place of a path is its place
-first_path_of : (list : List Path) → ArePathsOnce list → (place : ℕ) (path : Path) → slice_get list place ≡ Some path → first_place (λ other. bytes_eq other path) list ≡ Some place
+first_path_of : (list : List Path) → ArePathsOnce list → (place : ℕ) (path : Path) → slice_get list place ≡ Some path
+    → first_place (λ other. bytes_eq other path) list ≡ Some place
 first_path_of [] apart place path at = absurd (none-some path at)
 first_path_of (first ∷ list) apart zero path at =
     ap (λ (b : Bool). cond b (Some 0) (option_map (λ (n : ℕ). suc n) (first_place (λ (other : Path). bytes_eq other path) list))) (equal_names first path (same_Some first path at))
@@ -104,5 +107,6 @@ first_path_of (first ∷ list) apart (suc place) path at =
     ap (λ (b : Bool). cond b (Some 0) (option_map (λ (n : ℕ). suc n) (first_place (λ (other : Path). bytes_eq other path) list))) fails
     ∙ ap (option_map (λ (n : ℕ). suc n)) (first_path_of list apart.1 place path at)
 
-pub instance_once : (design : Design) (place : ℕ) (path : Path) → slice_get (instances design) place ≡ Some path → first_place (λ other. bytes_eq other path) (instances design) ≡ Some place
+pub instance_once : (design : Design) (place : ℕ) (path : Path) → slice_get (instances design) place ≡ Some path
+    → first_place (λ other. bytes_eq other path) (instances design) ≡ Some place
 instance_once design place path at = first_path_of (instances design) (instances_apart design) place path at

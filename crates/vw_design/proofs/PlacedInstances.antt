@@ -31,7 +31,8 @@ some_or_none design path None is = inr is
 some_or_none design path (Some model) is = inl (record { model = model; stands = is })
 
 -- a model that an item names is known_model
-pub known_model : (design : Design) (line : ℕ) (found : Option Model) → (if is_none found then Some line else None) ≡ None → (model : Model) × (found ≡ Some model)
+pub known_model : (design : Design) (line : ℕ) (found : Option Model) → (if is_none found then Some line else None) ≡ None
+    → (model : Model) × (found ≡ Some model)
 known_model design line None none = absurd (none-some line (sym none))
 known_model design line (Some model) none = (model, refl)
 
@@ -60,14 +61,17 @@ module _ (design : Design) (is_shallow : IsShallow design 64) (none : unknown_mo
       ⊎_elim (λ same. subst (λ (s : Site). HasModel design s.path) same at)
       (λ deeper. by from.0 entry from.0.item refl deeper (all_placed depth (suc from.0.before ∷ base))) from.2
     where
-      by : (entry : Numbered) → Has entry (numbered 0 0 at.model.items) → (item : Item) → entry.item ≡ item → Has site (inside (sites_below design depth) base entry.before item)
-          → (HasModel design (suc entry.before ∷ base) → (s : Site) → Has s (sites_below design depth (suc entry.before ∷ base)) → HasModel design s.path) → HasModel design site.path
+      by : (entry : Numbered) → Has entry (numbered 0 0 at.model.items) → (item : Item) → entry.item ≡ item
+          → Has site (inside (sites_below design depth) base entry.before item)
+          → (HasModel design (suc entry.before ∷ base) → (s : Site) → Has s (sites_below design depth (suc entry.before ∷ base)) → HasModel design s.path)
+          → HasModel design site.path
       by entry has (Names line ins out cover) is found deeper = absurd found
       by entry has (Latch line d q edge control init) is found deeper = absurd found
       by entry has (Sub line name binds) is found deeper = deeper (placed_here base at.model at.stands entry has line name binds is) site found
 
   -- and so has each instance that a site places
-  at_site : (path : Path) (site : Site) → Has site (sites design) → HasModel design site.path → (item : Item) → site.item ≡ item → Has path (instances_at site.path site.before item) → HasModel design path
+  at_site : (path : Path) (site : Site) → Has site (sites design) → HasModel design site.path → (item : Item) → site.item ≡ item
+      → Has path (instances_at site.path site.before item) → HasModel design path
   at_site path site listed at (Names line ins out cover) is found = absurd found
   at_site path site listed at (Latch line d q edge control init) is found = absurd found
   at_site path site listed at (Sub line name binds) is found =
@@ -93,13 +97,15 @@ has_root : (design : Design) → HasModel design []
 has_root design = let root = root_model design in record { model = root.0; stands = root.1 }
 
 -- without a fault of models a path is an instance exactly where it is listed
-pub faultless_listed : (design : Design) → HasNoModelFault design → (path : Path) (model : Model) → model_at design path ≡ Some model → Contains (instances design) path
+pub faultless_listed : (design : Design) → HasNoModelFault design → (path : Path) (model : Model) → model_at design path ≡ Some model
+    → Contains (instances design) path
 faultless_listed design faultless path model stands =
     let is_shallow = faultless_shallow design faultless in
     let short : length path < 64 = ⊎_elim (λ short. short) (λ deep. absurd (none-some model (sym (is_shallow.shallow path deep) ∙ stands))) (cases_lt (length path) 64) in
     Contains-Has path (instances design) (instance_listed design path model stands (omega arith))
 
-pub faultless_placed : (design : Design) → HasNoModelFault design → (path : Path) → Contains (instances design) path → (model : Model) × (model_at design path ≡ Some model)
+pub faultless_placed : (design : Design) → HasNoModelFault design → (path : Path) → Contains (instances design) path
+    → (model : Model) × (model_at design path ≡ Some model)
 faultless_placed design faultless path listed =
     let found = path_placed design (faultless_shallow design faultless) faultless.models_known path (Has-Contains path (instances design) listed) (has_root design) in
     (found.model, found.stands)

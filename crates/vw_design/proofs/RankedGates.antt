@@ -41,7 +41,9 @@ module _ (design : Design) where
     by (Some (Sub line model binds)) reads = absurd (true≢false (sym reads))
 
   -- so is the first of some that read each other
-  first_gate : (gate : Gate) (gates : List Gate) (last : Gate) → AllZip (λ one next. gate_reads design one next ≡ true) (gate ∷ gates) (gates ++ last ∷ []) → is_gate_item (item_at design gate.path gate.number) ≡ true
+  first_gate : (gate : Gate) (gates : List Gate) (last : Gate)
+      → AllZip (λ one next. gate_reads design one next ≡ true) (gate ∷ gates) (gates ++ last ∷ [])
+      → is_gate_item (item_at design gate.path gate.number) ≡ true
   first_gate gate [] last reads = reader gate last reads.0
   first_gate gate (next ∷ gates) last reads = reader gate next reads.0
 
@@ -67,7 +69,8 @@ pub record ReadsGate (design : Design) (path : Path) (ins : List Word) (other : 
   pub drives : driver design path name ≡ Some (at_cell other.path other.number)
 
 -- a gate reads what drives one of its inputs
-pub read_by : (design : Design) (gate other : Gate) (line : ℕ) (ins : List Word) (out : Word) (cover : Cover) → item_at design gate.path gate.number ≡ Some (Names line ins out cover)
+pub read_by : (design : Design) (gate other : Gate) (line : ℕ) (ins : List Word) (out : Word) (cover : Cover)
+    → item_at design gate.path gate.number ≡ Some (Names line ins out cover)
     → gate_reads design gate other ≡ true → ReadsGate design gate.path ins other
 read_by design gate other line ins out cover is reads =
     let any : list_any (λ name. is_driven_by other (driver design gate.path name)) ins ≡ true = sym (ap (reads_from design gate.path other) is) ∙ reads in
@@ -93,16 +96,19 @@ rank_at rank path (Some (Sub line model binds)) = 0
 pub record IsNetRanking (design : Design) (rank : Path → Word → ℕ) : Type 0 where
   pub gates : (path : Path) (number line : ℕ) (ins : List Word) (out : Word) (cover : Cover) → item_at design path number ≡ Some (Names line ins out cover)
       → (name : Word) → Has name ins → rank path name < rank path out
-  pub drivers : (path : Path) (name : Word) (at : Path) (number line : ℕ) (ins : List Word) (out : Word) (cover : Cover) → driver design path name ≡ Some (at_cell at number)
+  pub drivers : (path : Path) (name : Word) (at : Path) (number line : ℕ) (ins : List Word) (out : Word) (cover : Cover)
+      → driver design path name ≡ Some (at_cell at number)
       → item_at design at number ≡ Some (Names line ins out cover) → rank at out ≤ rank path name
 
 -- then gates have the ranks of what they drive
-pub net_ranking : (design : Design) (rank : Path → Word → ℕ) → IsNetRanking design rank → IsGateRanking design (λ gate. rank_at rank gate.path (item_at design gate.path gate.number))
+pub net_ranking : (design : Design) (rank : Path → Word → ℕ) → IsNetRanking design rank
+    → IsGateRanking design (λ gate. rank_at rank gate.path (item_at design gate.path gate.number))
 net_ranking design rank ranking = record { falls = falls } where
   falls : (gate other : Gate) → gate_reads design gate other ≡ true → is_gate_item (item_at design other.path other.number) ≡ true
       → rank_at rank other.path (item_at design other.path other.number) < rank_at rank gate.path (item_at design gate.path gate.number)
   falls gate other reads is = by (item_at design gate.path gate.number) refl (item_at design other.path other.number) refl (reader design gate other reads) is where
-    by : (item : Option Item) → item_at design gate.path gate.number ≡ item → (read : Option Item) → item_at design other.path other.number ≡ read → is_gate_item item ≡ true → is_gate_item read ≡ true
+    by : (item : Option Item) → item_at design gate.path gate.number ≡ item → (read : Option Item)
+        → item_at design other.path other.number ≡ read → is_gate_item item ≡ true → is_gate_item read ≡ true
         → rank_at rank other.path read < rank_at rank gate.path item
     by None here read there one two = absurd (true≢false (sym one))
     by (Some (Latch line d q edge control init)) here read there one two = absurd (true≢false (sym one))
@@ -123,9 +129,11 @@ net_ranking design rank ranking = record { falls = falls } where
 pub record IsTurnRanking (design : Design) (rank : Path → Word → ℕ) : Type 0 where
   pub gates : (path : Path) (number line : ℕ) (ins : List Word) (out : Word) (cover : Cover) → item_at design path number ≡ Some (Names line ins out cover)
       → (name : Word) → Has name ins → rank path name < rank path out
-  pub up : (place : ℕ) (path : Path) (name actual : Word) → first_claim design (model_at design (place ∷ path)) name ≡ Some port → actual_of design place path name ≡ Some actual
+  pub up : (place : ℕ) (path : Path) (name actual : Word) → first_claim design (model_at design (place ∷ path)) name ≡ Some port
+      → actual_of design place path name ≡ Some actual
       → rank path actual ≤ rank (place ∷ path) name
-  pub down : (path : Path) (name : Word) (place : ℕ) (formal : Word) → first_claim design (model_at design path) name ≡ Some (bound place formal) → rank (place ∷ path) formal ≤ rank path name
+  pub down : (path : Path) (name : Word) (place : ℕ) (formal : Word)
+      → first_claim design (model_at design path) name ≡ Some (bound place formal) → rank (place ∷ path) formal ≤ rank path name
 
 module _ (design : Design) (rank : Path → Word → ℕ) (ranking : IsTurnRanking design rank) where
   -- what drives a net has no greater rank under the name that it drives
@@ -143,9 +151,11 @@ module _ (design : Design) (rank : Path → Word → ℕ) (ranking : IsTurnRanki
   same_number path at one number e = cc
 
   -- an item that is the first to claim a name drives it
-  driven_here : (path : Path) (name : Word) (one : ℕ) → first_claim design (model_at design path) name ≡ Some (driven one) → (item : Item) → item_at design path one ≡ Some item → driven_name item ≡ name
+  driven_here : (path : Path) (name : Word) (one : ℕ) → first_claim design (model_at design path) name ≡ Some (driven one) → (item : Item)
+      → item_at design path one ≡ Some item → driven_name item ≡ name
   driven_here path name one is item at = by (model_at design path) refl is at where
-    by : (found : Option Model) → model_at design path ≡ found → first_claim design found name ≡ Some (driven one) → slice_get (items_of found) one ≡ Some item → driven_name item ≡ name
+    by : (found : Option Model) → model_at design path ≡ found → first_claim design found name ≡ Some (driven one)
+        → slice_get (items_of found) one ≡ Some item → driven_name item ≡ name
     by None stands is at = absurd (none-some item at)
     by (Some model) stands is at =
         let drives = driven_is design model name one (Has-at (driven one) (claims design model name) 0 is) in
@@ -155,14 +165,16 @@ module _ (design : Design) (rank : Path → Word → ℕ) (ranking : IsTurnRanki
   after : (turns : ℕ) (path : Path) (name : Word) → IsNoGreater (source_after design turns) path name
   after zero path name at number item found is = absurd (none-some (at_cell at number) found)
   after (suc turns) path name at number item found is = by path (first_claim design (model_at design path) name) refl found (λ p n. after turns p n at number item) where
-    upward : (place : ℕ) (path : Path) → first_claim design (model_at design (place ∷ path)) name ≡ Some port → (actual : Option Word) → actual_of design place path name ≡ actual
+    upward : (place : ℕ) (path : Path) → first_claim design (model_at design (place ∷ path)) name ≡ Some port → (actual : Option Word)
+        → actual_of design place path name ≡ actual
         → follow_turn (source_after design turns) (turn_up path actual) ≡ Some (at_cell at number)
         → ((p : Path) (n : Word) → source_after design turns p n ≡ Some (at_cell at number) → item_at design at number ≡ Some item → rank at (driven_name item) ≤ rank p n)
         → rank at (driven_name item) ≤ rank (place ∷ path) name
     upward place path claimed None above found further = absurd (none-some (at_cell at number) found)
     upward place path claimed (Some actual) above found further = omega (arith, further path actual found is, ranking.up place path name actual claimed above)
 
-    by : (path : Path) (claim : Option Claim) → first_claim design (model_at design path) name ≡ claim → follow_turn (source_after design turns) (turn_by design path name claim) ≡ Some (at_cell at number)
+    by : (path : Path) (claim : Option Claim) → first_claim design (model_at design path) name ≡ claim
+        → follow_turn (source_after design turns) (turn_by design path name claim) ≡ Some (at_cell at number)
         → ((p : Path) (n : Word) → source_after design turns p n ≡ Some (at_cell at number) → item_at design at number ≡ Some item → rank at (driven_name item) ≤ rank p n)
         → rank at (driven_name item) ≤ rank path name
     by path None claimed found further = absurd (none-some (at_cell at number) found)

@@ -29,7 +29,8 @@ has_model : (model : Model) (models : List Model) → Has model models → Has m
 has_model model [] has = absurd has
 has_model model (first ∷ models) has = ⊎_elim (λ same. inl (ap (λ (m : Model). m.name) same)) (λ later. inr (has_model model models later)) has
 
-pub named_model : (model : Model) (models : List Model) → are_distinct (map (λ m. m.name) models) ≡ true → Has model models → model_named models model.name ≡ Some model
+pub named_model : (model : Model) (models : List Model) → are_distinct (map (λ m. m.name) models) ≡ true → Has model models
+    → model_named models model.name ≡ Some model
 named_model model [] distinct has = absurd has
 named_model model (first ∷ models) distinct has =
     let parts = and_parts (not (has_name (map (λ (m : Model). m.name) models) first.name)) (are_distinct (map (λ (m : Model). m.name) models)) distinct in
@@ -38,7 +39,8 @@ named_model model (first ∷ models) distinct has =
     ∙ ap (λ (m : Model). Some m) same)
     (λ later. by (bytes_eq first.name model.name) refl (not-true (has_name (map (λ (m : Model). m.name) models) first.name) parts.0) later (named_model model models parts.1 later)) has
   where
-    by : (b : Bool) → bytes_eq first.name model.name ≡ b → has_name (map (λ (m : Model). m.name) models) first.name ≡ false → Has model models → model_named models model.name ≡ Some model
+    by : (b : Bool) → bytes_eq first.name model.name ≡ b → has_name (map (λ (m : Model). m.name) models) first.name ≡ false
+        → Has model models → model_named models model.name ≡ Some model
         → cond b (Some first) (find (λ (m : Model). bytes_eq m.name model.name) models) ≡ Some model
     by true is fresh later rest =
         let among = has_name-Has (map (λ (m : Model). m.name) models) first.name
@@ -55,7 +57,8 @@ module _ (design : Design) where
   number_in_file None = 0
   number_in_file (Some model) = unwrap_or (first_place (λ (m : Model). bytes_eq m.name model.name) design.models) 0
 
-  number_below : (path : Path) (model : Model) → model_at design path ≡ Some model → (place : ℕ) × (first_place (λ (m : Model). bytes_eq m.name model.name) design.models ≡ Some place) × (place < length design.models)
+  number_below : (path : Path) (model : Model) → model_at design path ≡ Some model
+      → (place : ℕ) × (first_place (λ (m : Model). bytes_eq m.name model.name) design.models ≡ Some place) × (place < length design.models)
   number_below path model stands =
       let found = some-place (λ (m : Model). bytes_eq m.name model.name) model design.models (model_in_file design path model stands) (name_same model.name) in
       let at = at-place (λ (m : Model). bytes_eq m.name model.name) design.models found.0 found.1 in
@@ -63,7 +66,8 @@ module _ (design : Design) where
 
   -- two models with one number are one
   same_number : (path other : Path) (one two : Model) → model_at design path ≡ Some one → model_at design other ≡ Some two → (place : ℕ)
-      → first_place (λ (m : Model). bytes_eq m.name one.name) design.models ≡ Some place → first_place (λ (m : Model). bytes_eq m.name two.name) design.models ≡ Some place → one ≡ two
+      → first_place (λ (m : Model). bytes_eq m.name one.name) design.models ≡ Some place
+      → first_place (λ (m : Model). bytes_eq m.name two.name) design.models ≡ Some place → one ≡ two
   same_number path other one two at_one at_two place is_one is_two =
       let a = at-place (λ (m : Model). bytes_eq m.name one.name) design.models place is_one in
       let b = at-place (λ (m : Model). bytes_eq m.name two.name) design.models place is_two in
@@ -95,7 +99,8 @@ module _ (design : Design) where
     same : model_at design (place ∷ middle ++ back) ≡ model_at design back
 
   -- the end of a path at a number that stands along it
-  end_at : (number : ℕ) (path : Path) → list_any (eqb number) (trail path) ≡ true → (middle : Path) × (back : Path) × (path ≡ middle ++ back) × (number_in_file (model_at design back) ≡ number)
+  end_at : (number : ℕ) (path : Path) → list_any (eqb number) (trail path) ≡ true
+      → (middle : Path) × (back : Path) × (path ≡ middle ++ back) × (number_in_file (model_at design back) ≡ number)
   end_at number [] any =
       ⊎_elim (λ here. ([], [], refl, sym (eqb-true number (number_in_file (model_at design [])) here))) (λ none. absurd (true≢false (sym none)))
       (or_cases (eqb number (number_in_file (model_at design []))) false any)
@@ -110,7 +115,8 @@ module _ (design : Design) where
   end_stands (place ∷ front) path model stands = let above = placer design place (front ++ path) model stands in end_stands front path above.0 above.1
 
   -- instances whose models have one number have one model
-  same_model : (path other : Path) (one two : Model) → model_at design path ≡ Some one → model_at design other ≡ Some two → number_in_file (model_at design path) ≡ number_in_file (model_at design other)
+  same_model : (path other : Path) (one two : Model) → model_at design path ≡ Some one → model_at design other ≡ Some two
+      → number_in_file (model_at design path) ≡ number_in_file (model_at design other)
       → model_at design path ≡ model_at design other
   same_model path other one two at_one at_two same =
       let a = number_below path one at_one in
@@ -159,7 +165,8 @@ module _ (design : Design) where
       ⊎_elim here (λ round. inr (further round)) (distinct_or_round path above.0 above.1)
 
   -- all numbers along a path are below the number of models
-  trail_below : (path : Path) (model : Model) → model_at design path ≡ Some model → (number : ℕ) → list_any (eqb number) (trail path) ≡ true → number < length design.models
+  trail_below : (path : Path) (model : Model) → model_at design path ≡ Some model → (number : ℕ) → list_any (eqb number) (trail path) ≡ true
+      → number < length design.models
   trail_below path model stands number any =
       let end = end_at number path any in
       let lower = end_stands end.0 end.1 model (ap (model_at design) (sym end.2) ∙ stands) in
@@ -168,7 +175,8 @@ module _ (design : Design) where
       subst (λ (n : ℕ). n < length design.models) (sym is ∙ end.3) below.2
 
   -- each model of an instance stands at one that is no deeper than there are models
-  shorten : (fuel : ℕ) (path : Path) (model : Model) → model_at design path ≡ Some model → length path ≤ fuel → (short : Path) × (model_at design short ≡ Some model) × (length short ≤ length design.models)
+  shorten : (fuel : ℕ) (path : Path) (model : Model) → model_at design path ≡ Some model → length path ≤ fuel
+      → (short : Path) × (model_at design short ≡ Some model) × (length short ≤ length design.models)
   shorten zero path model stands long = (path, stands, omega arith)
   shorten (suc fuel) path model stands long =
       let fits = λ (distinct : IsDistinct eqb (trail path)).
@@ -195,7 +203,8 @@ module _ (design : Design) where
       (ap (has_model_name model.name) short.1 ∙ name_same model.name)
 
   -- and what is reached has one
-  named_at : (name : Word) (path : Path) (found : Option Model) → model_at design path ≡ found → has_model_name name found ≡ true → (model : Model) × (model_at design path ≡ Some model) × (model.name ≡ name)
+  named_at : (name : Word) (path : Path) (found : Option Model) → model_at design path ≡ found → has_model_name name found ≡ true
+      → (model : Model) × (model_at design path ≡ Some model) × (model.name ≡ name)
   named_at name path None is named = absurd (true≢false (sym named))
   named_at name path (Some model) is named = (model, is, same_name model.name name named)
 
@@ -212,7 +221,8 @@ module _ (design : Design) where
   naming name (Sub line model binds) names = (line, binds, ap (λ (w : Word). Sub line w binds) (same_name model name names))
 
   -- what a reached model places is reached, where it is a model
-  pub reached_closed : (name placed : Word) → is_reached design name ≡ true → model_places (model_named design.models name) placed ≡ true → is_some (model_named design.models placed) ≡ true → is_reached design placed ≡ true
+  pub reached_closed : (name placed : Word) → is_reached design name ≡ true → model_places (model_named design.models name) placed ≡ true
+      → is_some (model_named design.models placed) ≡ true → is_reached design placed ≡ true
   reached_closed name placed reached places known =
       let at = at_reached name reached in
       let path = at.0 in
@@ -226,7 +236,8 @@ module _ (design : Design) where
       let behind = model_behind design path entry.entry listed sub.0 placed sub.1 (entry.item_is ∙ sub.2) in
       by (suc entry.entry.before ∷ path) (model_named design.models placed) refl known behind
     where
-      by : (path : Path) (found : Option Model) → model_named design.models placed ≡ found → is_some found ≡ true → model_at design path ≡ model_named design.models placed → is_reached design placed ≡ true
+      by : (path : Path) (found : Option Model) → model_named design.models placed ≡ found → is_some found ≡ true
+          → model_at design path ≡ model_named design.models placed → is_reached design placed ≡ true
       by path None is known behind = absurd (true≢false (sym known))
       by path (Some model) is known behind =
           let named = (from-find (λ (m : Model). bytes_eq m.name placed) model design.models is).1 in

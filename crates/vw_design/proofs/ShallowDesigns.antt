@@ -67,7 +67,8 @@ module _ (design : Design) where
 
   -- a search that finds nothing finds nothing at a placed model
   pub nothing_placed : {A : Type 0} → IsShallow design 64 → (search : ℕ → Word → List Bind → Option A) → first_placing design search ≡ None
-      → (path : Path) (model : Model) → model_at design path ≡ Some model → (line : ℕ) (name : Word) (binds : List Bind) → Has (Sub line name binds) model.items → search line name binds ≡ None
+      → (path : Path) (model : Model) → model_at design path ≡ Some model → (line : ℕ) (name : Word) (binds : List Bind)
+      → Has (Sub line name binds) model.items → search line name binds ≡ None
   nothing_placed is_shallow search none path model stands line name binds has =
       let in_model = none-found (λ (m : Model). first_found (by_placing search) m.items) model (reached design) none (model_reached is_shallow path model stands) in
       none-found (by_placing search) (Sub line name binds) model.items in_model has
@@ -82,7 +83,8 @@ module _ (design : Design) where
 
   pub one_way : IsShallow design 64 → port_both_ways design ≡ None → IsOneWay design
   one_way is_shallow none = record { one_way = by } where
-    by : (place : ℕ) (path : Path) (model : Model) (name : Word) → model_at design (place ∷ path) ≡ Some model → has_name model.outputs name ≡ true → is_port model name ≡ false
+    by : (place : ℕ) (path : Path) (model : Model) (name : Word) → model_at design (place ∷ path) ≡ Some model
+        → has_name model.outputs name ≡ true → is_port model name ≡ false
     by place path model name stands has =
         let above = placer design place path model stands in
         let placing = placing_of_placed design place above.0 model above.2 in

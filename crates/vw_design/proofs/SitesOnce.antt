@@ -23,7 +23,8 @@ abbrev AreSitesOnce : List Site → Type 0
 AreSitesOnce [] = Unit {0}
 AreSitesOnce (site ∷ list) = ((other : Site) → Has other list → Differ site other) × AreSitesOnce list
 
-apart_append : (one other : List Site) → AreSitesOnce one → AreSitesOnce other → ((a b : Site) → Has a one → Has b other → Differ a b) → AreSitesOnce (one ++ other)
+apart_append : (one other : List Site) → AreSitesOnce one → AreSitesOnce other → ((a b : Site) → Has a one → Has b other → Differ a b)
+    → AreSitesOnce (one ++ other)
 apart_append [] other first second across = second
 apart_append (site ∷ one) other first second across =
     let from = λ (b : Site) (has : Has b (one ++ other)). ⊎_elim (λ left. first.0 b left) (λ right. across site b (inl refl) right) (Has-append b one other has) in
@@ -53,7 +54,8 @@ ends_in design (suc depth) base site has =
     ⊎_elim (λ same. ([], sym (ap (λ (s : Site). s.path) same))) (λ deeper. by from.0 from.0.item deeper (ends_in design depth (suc from.0.before ∷ base) site)) from.2
   where
     by : (entry : Numbered) (item : Item) → Has site (inside (sites_below design depth) base entry.before item)
-        → (Has site (sites_below design depth (suc entry.before ∷ base)) → (front : Path) × (site.path ≡ front ++ (suc entry.before ∷ base))) → (front : Path) × (site.path ≡ front ++ base)
+        → (Has site (sites_below design depth (suc entry.before ∷ base)) → (front : Path) × (site.path ≡ front ++ (suc entry.before ∷ base)))
+        → (front : Path) × (site.path ≡ front ++ base)
     by entry (Names line ins out cover) found deeper = absurd found
     by entry (Latch line d q edge control init) found deeper = absurd found
     by entry (Sub line name binds) found deeper =
@@ -65,7 +67,8 @@ abbrev ComesBehind : Path → ℕ → ℕ → Site → Type 0
 ComesBehind base number before site =
     ((site.path ≡ base) × (number ≤ site.number)) ⊎ ((front : Path) × (b : ℕ) × (before ≤ b) × (site.path ≡ front ++ (suc b ∷ base)))
 
-pub entry_from : (number before : ℕ) (items : List Item) (entry : Numbered) → Has entry (numbered number before items) → (number ≤ entry.number) × (before ≤ entry.before)
+pub entry_from : (number before : ℕ) (items : List Item) (entry : Numbered) → Has entry (numbered number before items)
+    → (number ≤ entry.number) × (before ≤ entry.before)
 entry_from number before [] entry has = absurd has
 entry_from number before (item ∷ items) entry has =
     let later = λ (found : Has entry (numbered (suc number) (and_behind item before) items)).
@@ -87,7 +90,8 @@ is_behind design depth base number before items site has =
     ⊎_elim (λ same. inl (sym (ap (λ (s : Site). s.path) same), omega (arith, entry.0, ap (λ (s : Site). s.number) same)))
     (λ deeper. by from.0 entry.1 from.0.item deeper) from.2
   where
-    by : (entry : Numbered) → before ≤ entry.before → (item : Item) → Has site (inside (sites_below design depth) base entry.before item) → ComesBehind base number before site
+    by : (entry : Numbered) → before ≤ entry.before → (item : Item) → Has site (inside (sites_below design depth) base entry.before item)
+        → ComesBehind base number before site
     by entry late (Names line ins out cover) found = absurd found
     by entry late (Latch line d q edge control init) found = absurd found
     by entry late (Sub line name binds) found = let ends = ends_in design depth (suc entry.before ∷ base) site found in inr (ends.0, entry.before, late, ends.1)
@@ -97,7 +101,8 @@ pub head_same : {a b : ℕ} {xs ys : Path} → suc a ∷ xs ≡ suc b ∷ ys →
 head_same e = cc
 
 -- a site below a place is none of the instance, and none below a later place
-below_behind : (base : Path) (number before : ℕ) (front : Path) (one other : Site) → one.path ≡ front ++ (suc before ∷ base) → ComesBehind base number (suc before) other → Differ one other
+below_behind : (base : Path) (number before : ℕ) (front : Path) (one other : Site) → one.path ≡ front ++ (suc before ∷ base)
+    → ComesBehind base number (suc before) other → Differ one other
 below_behind base number before front one other path behind same_path same_number =
     ⊎_elim
     (λ own. omega (arith, ap (λ (p : Path). length p) (sym path ∙ same_path ∙ own.0), length-append front (suc before ∷ base)))
@@ -105,7 +110,8 @@ below_behind base number before front one other path behind same_path same_numbe
     behind
 
 -- an own site is none of the later ones
-own_behind : (base : Path) (number before : ℕ) (one other : Site) → one.path ≡ base → one.number ≡ number → ComesBehind base (suc number) before other → Differ one other
+own_behind : (base : Path) (number before : ℕ) (one other : Site) → one.path ≡ base → one.number ≡ number
+    → ComesBehind base (suc number) before other → Differ one other
 own_behind base number before one other path is behind same_path same_number =
     ⊎_elim (λ own. omega (arith, own.1))
     (λ under. omega (arith, ap (λ (p : Path). length p) (sym path ∙ same_path ∙ under.3), length-append under.0 (suc under.1 ∷ base))) behind
@@ -145,7 +151,8 @@ module _ (design : Design) where
   sites_apart = apart_below (65 + length design.models) []
 
 -- where no two are, the first place of an item is its place
-first_site_of : (list : List Site) → AreSitesOnce list → (place : ℕ) (site : Site) → slice_get list place ≡ Some site → first_place (is_site_of site.path site.number) list ≡ Some place
+first_site_of : (list : List Site) → AreSitesOnce list → (place : ℕ) (site : Site) → slice_get list place ≡ Some site
+    → first_place (is_site_of site.path site.number) list ≡ Some place
 first_site_of [] apart place site at = absurd (none-some site at)
 first_site_of (first ∷ list) apart zero site at =
     let same : first ≡ site = same_Some first site at in
@@ -162,8 +169,10 @@ first_site_of (first ∷ list) apart (suc place) site at =
     ∙ ap (option_map (λ (at : ℕ). suc at)) (first_site_of list apart.1 place site at)
 
 -- so it is for the sites and the cells of a design
-pub site_once : (design : Design) (place : ℕ) (site : Site) → slice_get (sites design) place ≡ Some site → place_of_site (sites design) site.path site.number ≡ Some place
+pub site_once : (design : Design) (place : ℕ) (site : Site) → slice_get (sites design) place ≡ Some site
+    → place_of_site (sites design) site.path site.number ≡ Some place
 site_once design place site at = first_site_of (sites design) (sites_apart design) place site at
 
-pub cell_once : (design : Design) (place : ℕ) (site : Site) → slice_get (cells design) place ≡ Some site → place_of_site (cells design) site.path site.number ≡ Some place
+pub cell_once : (design : Design) (place : ℕ) (site : Site) → slice_get (cells design) place ≡ Some site
+    → place_of_site (cells design) site.path site.number ≡ Some place
 cell_once design place site at = first_site_of (cells design) (apart_filter (λ (s : Site). is_cell s.item) (sites design) (sites_apart design)) place site at

@@ -11,7 +11,8 @@ use Rattle.vw_design.specs.Limits.{input_count, output_count, instance_count, bi
 use Rattle.vw_design.proofs.ListElements.{Has, none-find}
 
 -- a test that lets less through leaves no more
-fewer : {A : Type 0} (narrow wide : A → Bool) → ((x : A) → narrow x ≡ true → wide x ≡ true) → (xs : List A) → length (filter narrow xs) ≤ length (filter wide xs)
+fewer : {A : Type 0} (narrow wide : A → Bool) → ((x : A) → narrow x ≡ true → wide x ≡ true) → (xs : List A)
+    → length (filter narrow xs) ≤ length (filter wide xs)
 fewer narrow wide keeps [] = omega arith
 fewer {A} narrow wide keeps (x ∷ xs) = by (narrow x) refl (wide x) refl (fewer narrow wide keeps xs) where
   by : (a : Bool) → narrow x ≡ a → (b : Bool) → wide x ≡ b → length (filter narrow xs) ≤ length (filter wide xs)

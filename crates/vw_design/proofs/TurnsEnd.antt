@@ -16,7 +16,8 @@ pub record IsShallow (design : Design) (limit : ℕ) : Type 0 where
   pub shallow : (path : Path) → limit ≤ length path → model_at design path ≡ None
 
 pub record IsOneWay (design : Design) : Type 0 where
-  pub one_way : (place : ℕ) (path : Path) (model : Model) (name : Word) → model_at design (place ∷ path) ≡ Some model → has_name model.outputs name ≡ true → is_port model name ≡ false
+  pub one_way : (place : ℕ) (path : Path) (model : Model) (name : Word) → model_at design (place ∷ path) ≡ Some model
+      → has_name model.outputs name ≡ true → is_port model name ≡ false
 
 -- what is found of nets after so many turns, where each time one turn is made, and nothing is found where the first ends
 -- with nothing
@@ -25,12 +26,14 @@ record GoesAlong (design : Design) (found : ℕ → Path → Word → Option Sou
   along : (turns : ℕ) (path : Path) (name : Word) → found (suc turns) path name ≡ follow_turn (found turns) (turn design path name)
 
 -- the first claim on a net is one of its model
-pub claim_of_model : (design : Design) (name : Word) (claim : Claim) (model : Option Model) → first_claim design model name ≡ Some claim → (found : Model) × (model ≡ Some found) × IsClaim design found name claim
+pub claim_of_model : (design : Design) (name : Word) (claim : Claim) (model : Option Model) → first_claim design model name ≡ Some claim
+    → (found : Model) × (model ≡ Some found) × IsClaim design found name claim
 claim_of_model design name claim None is = absurd (none-some claim is)
 claim_of_model design name claim (Some model) is = (model, refl, claim_is design model name claim (Has-at claim (claims design model name) 0 is))
 
 -- what is bound to a formal leads to an output of an instance, which is no port
-pub no_port : (design : Design) → IsOneWay design → (place : ℕ) (path : Path) (name formal : Word) → first_claim design (model_at design path) name ≡ Some (bound place formal)
+pub no_port : (design : Design) → IsOneWay design → (place : ℕ) (path : Path) (name formal : Word)
+    → first_claim design (model_at design path) name ≡ Some (bound place formal)
     → first_claim design (model_at design (place ∷ path)) formal ≡ Some port → ⊥
 no_port design one place path name formal is port_too =
     let here = claim_of_model design name (bound place formal) (model_at design path) is in
@@ -49,7 +52,8 @@ module _ (design : Design) (limit : ℕ) (shallow : IsShallow design limit) (one
 
   -- from a net that no port claims, the way goes down
   module _ (next : ℕ → Path → Word → Option Source) (goes : GoesAlong design next) where
-    down : (turns : ℕ) (path : Path) (name : Word) → (first_claim design (model_at design path) name ≡ Some port → ⊥) → limit ≤ turns + length path → next turns path name ≡ source_after design turns path name
+    down : (turns : ℕ) (path : Path) (name : Word) → (first_claim design (model_at design path) name ≡ Some port → ⊥)
+        → limit ≤ turns + length path → next turns path name ≡ source_after design turns path name
     down zero path name free enough = goes.nothing path name (no_claim path name (omega arith))
     down (suc turns) path name free enough =
         goes.along turns path name ∙ by (first_claim design (model_at design path) name) refl (λ place formal free_there. down turns (place ∷ path) formal free_there (omega arith))
@@ -77,11 +81,13 @@ module _ (design : Design) (limit : ℕ) (shallow : IsShallow design limit) (one
     up (at ∷ path) (suc turns) name enough =
         goes.along turns (at ∷ path) name ∙ by (first_claim design (model_at design (at ∷ path)) name) refl (λ actual. up path turns actual (omega arith))
       where
-        upward : (actual : Option Word) → ((actual : Word) → next turns path actual ≡ source_after design turns path actual) → follow_turn (next turns) (turn_up path actual) ≡ follow_turn (source_after design turns) (turn_up path actual)
+        upward : (actual : Option Word) → ((actual : Word) → next turns path actual ≡ source_after design turns path actual)
+            → follow_turn (next turns) (turn_up path actual) ≡ follow_turn (source_after design turns) (turn_up path actual)
         upward None higher = refl
         upward (Some actual) higher = higher actual
 
-        by : (claim : Option Claim) → first_claim design (model_at design (at ∷ path)) name ≡ claim → ((actual : Word) → next turns path actual ≡ source_after design turns path actual)
+        by : (claim : Option Claim) → first_claim design (model_at design (at ∷ path)) name ≡ claim
+            → ((actual : Word) → next turns path actual ≡ source_after design turns path actual)
             → follow_turn (next turns) (turn_by design (at ∷ path) name claim) ≡ follow_turn (source_after design turns) (turn_by design (at ∷ path) name claim)
         by None is higher = refl
         by (Some port) is higher = upward (actual_of design at path name) higher
@@ -99,7 +105,8 @@ module _ (design : Design) (limit : ℕ) (shallow : IsShallow design limit) (one
       up (λ t. found) goes path turns name enough
 
   -- one turn more finds the same
-  pub one_more : (path : Path) (turns : ℕ) (name : Word) → length path + limit ≤ turns → source_after design (suc turns) path name ≡ source_after design turns path name
+  pub one_more : (path : Path) (turns : ℕ) (name : Word) → length path + limit ≤ turns
+      → source_after design (suc turns) path name ≡ source_after design turns path name
   one_more path turns name enough =
       let goes : GoesAlong design (λ t. source_after design (suc t)) = record {
         nothing = λ p n ended. ap (follow_turn (source_after design 0)) ended;

@@ -37,7 +37,8 @@ module _ (design : Design) where
   pub bit_of_instance : (path : Path) (name : Word) → has_bit design (driver design path name) ≡ true → (model : Model) × (model_at design path ≡ Some model)
   unfolding driver
   bit_of_instance path name bit = by (model_at design path) refl bit where
-    by : (found : Option Model) → model_at design path ≡ found → has_bit design (follow_turn (source_after design 127) (turn_by design path name (first_claim design found name))) ≡ true
+    by : (found : Option Model) → model_at design path ≡ found
+        → has_bit design (follow_turn (source_after design 127) (turn_by design path name (first_claim design found name))) ≡ true
         → (model : Model) × (model_at design path ≡ Some model)
     by None is bit = absurd (true≢false (sym bit))
     by (Some model) is bit = (model, is)

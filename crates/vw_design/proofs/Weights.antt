@@ -23,10 +23,12 @@ weight_append weight (site ∷ one) other = omega (arith, weight_append weight o
 
 -- what stands at a place of an instance is the model that the item names
 module _ (design : Design) where
-  pub model_behind : (path : Path) (entry : Numbered) → Has entry (numbered 0 0 (items_of (model_at design path))) → (line : ℕ) (name : Word) (binds : List Bind) → entry.item ≡ Sub line name binds
+  pub model_behind : (path : Path) (entry : Numbered) → Has entry (numbered 0 0 (items_of (model_at design path)))
+      → (line : ℕ) (name : Word) (binds : List Bind) → entry.item ≡ Sub line name binds
       → model_at design (suc entry.before ∷ path) ≡ model_named design.models name
   model_behind path entry has line name binds is = by (model_at design path) refl has where
-    by : (found : Option Model) → model_at design path ≡ found → Has entry (numbered 0 0 (items_of found)) → model_at design (suc entry.before ∷ path) ≡ model_named design.models name
+    by : (found : Option Model) → model_at design path ≡ found → Has entry (numbered 0 0 (items_of found))
+        → model_at design (suc entry.before ∷ path) ≡ model_named design.models name
     by None at none = absurd none
     by (Some model) at listed =
         ap (option_and_then (model_placed design (suc entry.before))) at
@@ -52,14 +54,16 @@ module _ (design : Design) where
           weight_append weight (sites_below design depth (suc before ∷ path)) rest,
         )
 
-    sites_weigh : (depth : ℕ) (path : Path) → weight_of weight (sites_below design (suc depth) path) ≡ items_weight weight (model_weight design weight depth) (items_of (model_at design path))
+    sites_weigh : (depth : ℕ) (path : Path)
+        → weight_of weight (sites_below design (suc depth) path) ≡ items_weight weight (model_weight design weight depth) (items_of (model_at design path))
     sites_weigh zero path = items_weigh zero path 0 0 (items_of (model_at design path)) (λ e has line name binds is. refl)
     sites_weigh (suc depth) path =
         items_weigh (suc depth) path 0 0 (items_of (model_at design path)) (λ e has line name binds is.
         sites_weigh depth (suc e.before ∷ path) ∙ ap (λ (m : Option Model). items_weight weight (model_weight design weight depth) (items_of m)) (model_behind path e has line name binds is))
 
     -- what an item places weighs what its model does
-    pub placed_weighs : (depth : ℕ) (path : Path) (entry : Numbered) → Has entry (numbered 0 0 (items_of (model_at design path))) → (line : ℕ) (name : Word) (binds : List Bind) → entry.item ≡ Sub line name binds
+    pub placed_weighs : (depth : ℕ) (path : Path) (entry : Numbered) → Has entry (numbered 0 0 (items_of (model_at design path)))
+        → (line : ℕ) (name : Word) (binds : List Bind) → entry.item ≡ Sub line name binds
         → weight_of weight (sites_below design depth (suc entry.before ∷ path)) ≡ model_weight design weight depth name
     placed_weighs zero path entry has line name binds is = refl
     placed_weighs (suc depth) path entry has line name binds is =
@@ -77,7 +81,8 @@ module _ (design : Design) where
         ∙ ap (λ (m : Model). Some m) same
 
   -- what all sites weigh
-  pub design_weighs : (weight : Item → ℕ) (root : Model) → model_at design [] ≡ Some root → weight_of weight (sites design) ≡ model_weight design weight (65 + length design.models) root.name
+  pub design_weighs : (weight : Item → ℕ) (root : Model) → model_at design [] ≡ Some root
+      → weight_of weight (sites design) ≡ model_weight design weight (65 + length design.models) root.name
   unfolding sites
   design_weighs weight root is =
       let levels : 65 + length design.models ≡ suc (64 + length design.models) = omega arith in
@@ -91,7 +96,8 @@ module _ (design : Design) where
 pub instances_weigh : (list : List Site) → length (paths_of list) ≡ weight_of placed_one list
 instances_weigh [] = refl
 instances_weigh (site ∷ list) = by site.item (instances_weigh list) where
-  by : (item : Item) → length (paths_of list) ≡ weight_of placed_one list → length (instances_at site.path site.before item ++ paths_of list) ≡ placed_one item + weight_of placed_one list
+  by : (item : Item) → length (paths_of list) ≡ weight_of placed_one list
+      → length (instances_at site.path site.before item ++ paths_of list) ≡ placed_one item + weight_of placed_one list
   by (Names line ins out cover) rest = omega (arith, rest)
   by (Latch line d q edge control init) rest = omega (arith, rest)
   by (Sub line name binds) rest = omega (arith, rest)
@@ -140,7 +146,8 @@ module _ (design : Design) (among : Word → Bool) (rank : Word → ℕ) (rankin
       let here = and_parts (among name) (nat_lt (rank name) limit) parts.0 in
       omega (arith, items_same weight limit one other items parts.1 each, each name here.0 (ltb-true (rank name) limit here.1))
 
-  pub weight_stays : (weight : Item → ℕ) (one other : ℕ) (name : Word) → among name ≡ true → rank name < one → rank name < other → model_weight design weight one name ≡ model_weight design weight other name
+  pub weight_stays : (weight : Item → ℕ) (one other : ℕ) (name : Word) → among name ≡ true → rank name < one → rank name < other
+      → model_weight design weight one name ≡ model_weight design weight other name
   weight_stays weight zero other name is low low_too = absurd (omega arith)
   weight_stays weight (suc one) zero name is low low_too = absurd (omega arith)
   weight_stays weight (suc one) (suc other) name is low low_too =

@@ -20,16 +20,20 @@ bind formal actual = record { formal = formal; actual = actual }
 abbrev pub row : List Mark → Row
 row marks = record { marks = marks }
 
-even_rows : (inputs : ℕ) (rows : List (List Mark)) → list_all (λ (marks : List Mark). length marks == inputs) rows ≡ true → All (λ (r : Row). length r.marks ≡ inputs) (map row rows)
+even_rows : (inputs : ℕ) (rows : List (List Mark)) → list_all (λ (marks : List Mark). length marks == inputs) rows ≡ true
+    → All (λ (r : Row). length r.marks ≡ inputs) (map row rows)
 even_rows inputs [] even = All-nil (λ (r : Row). length r.marks ≡ inputs)
 even_rows inputs (marks ∷ rows) even =
     let parts = and_parts (length marks == inputs) (list_all (λ (ms : List Mark). length ms == inputs) rows) even in
     All-cons (λ (r : Row). length r.marks ≡ inputs) (row marks) (map row rows) (eqb-true (length marks) inputs parts.0) (even_rows inputs rows parts.1)
 
-pub narrow_table : (inputs : ℕ) (rows : List (List Mark)) → (nat_le inputs 128 && list_all (λ (marks : List Mark). length marks == inputs) rows) ≡ true → inputs ≤ 128
+pub narrow_table : (inputs : ℕ) (rows : List (List Mark))
+    → (nat_le inputs 128 && list_all (λ (marks : List Mark). length marks == inputs) rows) ≡ true → inputs ≤ 128
 narrow_table inputs rows fits = leb-true inputs 128 (and_parts (nat_le inputs 128) (list_all (λ (marks : List Mark). length marks == inputs) rows) fits).0
 
-pub even_table : (inputs : ℕ) (rows : List (List Mark)) → (nat_le inputs 128 && list_all (λ (marks : List Mark). length marks == inputs) rows) ≡ true → All (λ (r : Row). length r.marks ≡ inputs) (map row rows)
+pub even_table : (inputs : ℕ) (rows : List (List Mark))
+    → (nat_le inputs 128 && list_all (λ (marks : List Mark). length marks == inputs) rows) ≡ true
+    → All (λ (r : Row). length r.marks ≡ inputs) (map row rows)
 even_table inputs rows fits = even_rows inputs rows (and_parts (nat_le inputs 128) (list_all (λ (marks : List Mark). length marks == inputs) rows) fits).1
 
 -- a table, whose rows have its width

@@ -50,7 +50,8 @@ module _ (planned : PlannedBoard) (sound : IsSound planned) (unknown : Bool) (ro
     long : length state ≡ latch_count planned.ordered.flat.cells
 
   -- the clock of the first of these rows
-  first_clock : (number : ℕ) (state row : List Bool) (left : List (List Bool)) → IsLeft number state (row ∷ left) → IsClock planned board_rows value (first_microclock number) row state
+  first_clock : (number : ℕ) (state row : List Bool) (left : List (List Bool)) → IsLeft number state (row ∷ left)
+      → IsClock planned board_rows value (first_microclock number) row state
   first_clock number state row left is = record { begins = begins; holds = holds } where
     holds : (microcycle : ℕ) → microcycle ≤ planned.plan.period → slice_get board_rows (first_microclock number + microcycle) ≡ Some row
     holds microcycle early = let none : number ≡ number + 0 = omega arith in row_held planned rows number row microcycle (ap (slice_get rows) none ∙ is.rows_left 0 row refl) early
@@ -61,12 +62,14 @@ module _ (planned : PlannedBoard) (sound : IsSound planned) (unknown : Bool) (ro
         is.begins (omega (arith, inside))
 
   -- and what is left behind it
-  next_left : (number : ℕ) (state row : List Bool) (left : List (List Bool)) → IsLeft number state (row ∷ left) → IsLeft (suc number) (next_state planned.ordered.flat row state) left
+  next_left : (number : ℕ) (state row : List Bool) (left : List (List Bool)) → IsLeft number state (row ∷ left)
+      → IsLeft (suc number) (next_state planned.ordered.flat row state) left
   next_left number state row left is = record { rows_left = rows_left; begins = begins; long = next_long planned.ordered.flat row state } where
     rows_left : (place : ℕ) (one : List Bool) → slice_get left place ≡ Some one → slice_get rows (suc number + place) ≡ Some one
     rows_left place one at = let next : suc number + place ≡ number + suc place = omega arith in ap (slice_get rows) next ∙ is.rows_left (suc place) one at
 
-    begins : first_microclock (suc number) < length board_rows → IsAtStart planned value (first_microclock (suc number)) (next_state planned.ordered.flat row state)
+    begins : first_microclock (suc number) < length board_rows
+        → IsAtStart planned value (first_microclock (suc number)) (next_state planned.ordered.flat row state)
     begins inside =
         let product = suc-mul number (planned.plan.period + 1) in
         let next : first_microclock (suc number) ≡ suc (last_microclock planned number) = omega (arith, product) in
@@ -74,7 +77,8 @@ module _ (planned : PlannedBoard) (sound : IsSound planned) (unknown : Bool) (ro
         (next_start planned sound unknown board_rows value run (first_microclock number) row state (first_clock number state row left is) (subst (λ (time : ℕ). time < length board_rows) next inside))
 
   -- so each clock of the history is a clock of the run
-  clock_at : (number : ℕ) (state : List Bool) (left : List (List Bool)) → IsLeft number state left → (place : ℕ) (row own : List Bool) → slice_get left place ≡ Some row → slice_get (states_of planned.ordered.flat state left) place ≡ Some own
+  clock_at : (number : ℕ) (state : List Bool) (left : List (List Bool)) → IsLeft number state left → (place : ℕ) (row own : List Bool)
+      → slice_get left place ≡ Some row → slice_get (states_of planned.ordered.flat state left) place ≡ Some own
       → IsClock planned board_rows value (first_microclock (number + place)) row own
   clock_at number state [] is place row own at stands = absurd (none-some row at)
   clock_at number state (first ∷ left) is zero row own at stands =
@@ -88,14 +92,16 @@ module _ (planned : PlannedBoard) (sound : IsSound planned) (unknown : Bool) (ro
       subst (λ (k : ℕ). IsClock planned board_rows value (first_microclock k) row own) next
       (clock_at (suc number) (next_state planned.ordered.flat first state) left (next_left number state first left is) place row own at stands)
 
-  all_outputs : (number : ℕ) (state : List Bool) (left : List (List Bool)) → IsLeft number state left → map (λ clock. shown_outputs planned value (last_microclock planned clock)) (range_with_len number (length left)) ≡ outputs_of planned.ordered.flat state left
+  all_outputs : (number : ℕ) (state : List Bool) (left : List (List Bool)) → IsLeft number state left
+      → map (λ clock. shown_outputs planned value (last_microclock planned clock)) (range_with_len number (length left)) ≡ outputs_of planned.ordered.flat state left
   all_outputs number state [] is = refl
   all_outputs number state (row ∷ left) is =
       ap₂ (λ (first : List Bool) (rest : List (List Bool)). first ∷ rest) (outputs_shown number row state (first_clock number state row left is))
       (ap (λ (from : ℕ). map (λ clock. shown_outputs planned value (last_microclock planned clock)) (range_with_len from (length left))) (add-one number)
       ∙ all_outputs (suc number) (next_state planned.ordered.flat row state) left (next_left number state row left is))
 
-  all_latches : (number : ℕ) (state : List Bool) (left : List (List Bool)) → IsLeft number state left → map (λ clock. shown_latches planned value (last_microclock planned clock)) (range_with_len number (length left)) ≡ states_of planned.ordered.flat state left
+  all_latches : (number : ℕ) (state : List Bool) (left : List (List Bool)) → IsLeft number state left
+      → map (λ clock. shown_latches planned value (last_microclock planned clock)) (range_with_len number (length left)) ≡ states_of planned.ordered.flat state left
   all_latches number state [] is = refl
   all_latches number state (row ∷ left) is =
       ap₂ (λ (first : List Bool) (rest : List (List Bool)). first ∷ rest) (latches_shown number row state (first_clock number state row left is) is.long)
@@ -132,7 +138,8 @@ module _ (planned : PlannedBoard) (sound : IsSound planned) (unknown : Bool) (ro
   pub shows_latches : at_each_clock planned (shown_latches planned value) (length rows) ≡ states_of planned.ordered.flat (start_values unknown planned.ordered.flat.cells) rows
   shows_latches = all_latches 0 (start_values unknown planned.ordered.flat.cells) rows all_left
 
-  pub clock_of : (clock : ℕ) (row state : List Bool) → IsClockOf planned unknown rows clock row state → IsClock planned board_rows value (clock * (planned.plan.period + 1)) row state
+  pub clock_of : (clock : ℕ) (row state : List Bool) → IsClockOf planned unknown rows clock row state
+      → IsClock planned board_rows value (clock * (planned.plan.period + 1)) row state
   clock_of clock row state is =
       let none : 0 + clock ≡ clock = omega arith in
       subst (λ (k : ℕ). IsClock planned board_rows value (first_microclock k) row state) none

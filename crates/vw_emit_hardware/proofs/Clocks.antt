@@ -36,7 +36,8 @@ eqb-suc one other =
 -- ---- nodes of cells
 
 -- a cell of a sound plan is on a chip
-pub cell_chip : (planned : PlannedBoard) → IsSound planned → (cell : ℕ) (is : Cell) → slice_get planned.ordered.flat.cells cell ≡ Some is → (1 ≤ slice_index planned.plan.chip_of cell) × (slice_index planned.plan.chip_of cell ≤ planned.board.chips)
+pub cell_chip : (planned : PlannedBoard) → IsSound planned → (cell : ℕ) (is : Cell) → slice_get planned.ordered.flat.cells cell ≡ Some is
+    → (1 ≤ slice_index planned.plan.chip_of cell) × (slice_index planned.plan.chip_of cell ≤ planned.board.chips)
 cell_chip planned sound cell is at =
     let inside = slice_get_within planned.ordered.flat.cells cell is at in
     sound.one_chip_each.chips cell 0 (omega (arith, inside, sound.one_chip_each.each))
@@ -48,7 +49,8 @@ module _ (planned : PlannedBoard) (sound : IsSound planned) (unknown : Bool) (ro
   within microcycle early = slice_get_within rows (start + microcycle) row (clock.holds microcycle early)
 
   -- in each microcycle its own stage alone is 1, at each node
-  pub stage_is : (microcycle node other : ℕ) → microcycle ≤ planned.plan.period → node ≤ planned.board.chips → other ≤ planned.plan.period → value (start + microcycle) node (moment other) ≡ eqb microcycle other
+  pub stage_is : (microcycle node other : ℕ) → microcycle ≤ planned.plan.period → node ≤ planned.board.chips → other ≤ planned.plan.period
+      → value (start + microcycle) node (moment other) ≡ eqb microcycle other
   stage_is zero node other early among small = let none : start + 0 ≡ start = omega arith in ap (λ (time : ℕ). value time node (moment other)) none ∙ clock.begins.stages node other among small
   stage_is (suc before) node zero early among small =
       let next : start + suc before ≡ suc (start + before) = omega arith in

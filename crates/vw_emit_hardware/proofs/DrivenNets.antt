@@ -45,12 +45,15 @@ count_among : (numbers : List ℕ) (number upto : ℕ) → is_among (take upto n
 count_among numbers number zero among = absurd (true≢false (sym among))
 count_among [] number (suc upto) among = absurd (true≢false (sym among))
 count_among (first ∷ numbers) number (suc upto) among = by (eqb first number) among (count_among numbers number upto) where
-  by : (same : Bool) → (same || is_among (take upto numbers) number) ≡ true → (is_among (take upto numbers) number ≡ true → count_before numbers number < upto) → cond same 0 (suc (count_before numbers number)) < suc upto
+  by : (same : Bool) → (same || is_among (take upto numbers) number) ≡ true
+      → (is_among (take upto numbers) number ≡ true → count_before numbers number < upto)
+      → cond same 0 (suc (count_before numbers number)) < suc upto
   by true is further = omega arith
   by false is further = omega (arith, further is)
 
 -- a number of a list stands behind as many as stand before it
-count_at : (numbers : List ℕ) (number : ℕ) → is_among numbers number ≡ true → (count_before numbers number < length numbers) × (get_or numbers (count_before numbers number) 0 ≡ number)
+count_at : (numbers : List ℕ) (number : ℕ) → is_among numbers number ≡ true
+    → (count_before numbers number < length numbers) × (get_or numbers (count_before numbers number) 0 ≡ number)
 count_at [] number among = absurd (true≢false (sym among))
 count_at (first ∷ numbers) number among = by (eqb first number) refl among (count_at numbers number) where
   by : (same : Bool) → eqb first number ≡ same → (same || is_among numbers number) ≡ true
@@ -60,7 +63,8 @@ count_at (first ∷ numbers) number among = by (eqb first number) refl among (co
   by false same is further = let rest = further is in (omega (arith, rest.0), rest.1)
 
 -- a gate stands in an order behind the gates that it reads
-earlier_gate : (ordered : Ordered) (cell : ℕ) (ins : List ℕ) (cover : Cover) → slice_get ordered.flat.cells cell ≡ Some (Gate ins cover) → (place default : ℕ) → place < length ins
+earlier_gate : (ordered : Ordered) (cell : ℕ) (ins : List ℕ) (cover : Cover) → slice_get ordered.flat.cells cell ≡ Some (Gate ins cover)
+    → (place default : ℕ) → place < length ins
     → let net = get_or ins place default in nat_lt net ordered.flat.inputs ≡ false → is_latch (slice_get ordered.flat.cells (net - ordered.flat.inputs)) ≡ false
     → count_before ordered.order (net - ordered.flat.inputs) < count_before ordered.order cell
 earlier_gate ordered cell ins cover at place default within no_input no_latch =
@@ -86,7 +90,8 @@ module _ (planned : PlannedBoard) (sound : IsSound planned) where
   stage_driven node zero among small = by_item (register (moment planned.plan.period) (moment 0) StartsAtOne) (has_first_stage planned node among) refl
   stage_driven node (suc before) among small = by_item (ring_stage before) (has_stage planned node among before (omega (arith, small))) refl
 
-  pub held_driven : (wire place : ℕ) (is : Wire) (hop : Hop) → slice_get planned.plan.wires wire ≡ Some is → slice_get is.hops place ≡ Some hop → (hop.to ≤ planned.board.chips) × IsDriven planned hop.to (held wire place)
+  pub held_driven : (wire place : ℕ) (is : Wire) (hop : Hop) → slice_get planned.plan.wires wire ≡ Some is
+      → slice_get is.hops place ≡ Some hop → (hop.to ≤ planned.board.chips) × IsDriven planned hop.to (held wire place)
   held_driven wire place is hop there stands =
       let over = (hop_facts planned sound wire place is hop there stands).over in
       let ends = planned.board.linked.separate.ends over.number over.link (slice_get_within planned.board.links over.number over.link over.there) in
@@ -102,7 +107,8 @@ module _ (planned : PlannedBoard) (sound : IsSound planned) where
     by false inputs (row ∷ rows) = refl
 
   -- a cell's net at its own node
-  cell_driven : (number : ℕ) (cell : Cell) → slice_get planned.ordered.flat.cells number ≡ Some cell → (node : ℕ) → slice_index planned.plan.chip_of number ≡ node → IsDriven planned node (cond (is_latch (Some cell)) (kept number) (gate number))
+  cell_driven : (number : ℕ) (cell : Cell) → slice_get planned.ordered.flat.cells number ≡ Some cell → (node : ℕ)
+      → slice_index planned.plan.chip_of number ≡ node → IsDriven planned node (cond (is_latch (Some cell)) (kept number) (gate number))
   cell_driven number (Gate ins cover) at node chip =
       let among : node ≤ planned.board.chips = subst (λ (n : ℕ). n ≤ planned.board.chips) chip (cell_chip planned sound number (Gate ins cover) at).1 in
       by_item (cover_table (map (name_at planned node) ins) (gate number) cover) (has_gate planned node among number ins cover at chip) (drives_gate (map (name_at planned node) ins) (gate number) cover)
@@ -185,7 +191,8 @@ module _ (planned : PlannedBoard) (sound : IsSound planned) where
     by (brought one) = subst (IsDriven planned node) (sym one.name_is) (subst (λ (n : ℕ). IsDriven planned n (held one.wire one.place)) one.reaches (held_driven one.wire one.place one.is one.hop one.there one.stands).1)
 
   -- with a small rank
-  pub name_rank : (net node : ℕ) → net < net_count planned → IsThere planned net node → rank planned (name_at planned node net) ≤ length planned.ordered.order + 1
+  pub name_rank : (net node : ℕ) → net < net_count planned → IsThere planned net node
+      → rank planned (name_at planned node net) ≤ length planned.ordered.order + 1
   name_rank net node small there = by (name_origin net node small there) where
     of_cell : (number : ℕ) (latch : Bool) → rank planned (cond latch (kept number) (gate number)) ≤ length planned.ordered.order + 1
     of_cell number true = omega arith
@@ -197,13 +204,15 @@ module _ (planned : PlannedBoard) (sound : IsSound planned) where
     by (brought one) = let is = ap (rank planned) one.name_is in omega (arith, is)
 
   -- and a gate has a greater one than what it reads
-  pub gate_rank : (cell : ℕ) (ins : List ℕ) (cover : Cover) → slice_get planned.ordered.flat.cells cell ≡ Some (Gate ins cover) → (node place default : ℕ) → place < length ins
+  pub gate_rank : (cell : ℕ) (ins : List ℕ) (cover : Cover) → slice_get planned.ordered.flat.cells cell ≡ Some (Gate ins cover)
+      → (node place default : ℕ) → place < length ins
       → let net = get_or ins place default in net < net_count planned → IsThere planned net node → rank planned (name_at planned node net) < rank planned (gate cell)
   gate_rank cell ins cover at node place default within small there = by (name_origin net node small there) where
     net : ℕ
     net = get_or ins place default
 
-    of_cell : (own : IsOwnName net node (name_at planned node net)) → (latch : Bool) → is_latch (Some own.cell) ≡ latch → rank planned (cond latch (kept own.number) (gate own.number)) < rank planned (gate cell)
+    of_cell : (own : IsOwnName net node (name_at planned node net)) → (latch : Bool) → is_latch (Some own.cell) ≡ latch
+        → rank planned (cond latch (kept own.number) (gate own.number)) < rank planned (gate cell)
     of_cell own true is = omega arith
     of_cell own false is =
         let number : net - planned.ordered.flat.inputs ≡ own.number = omega (arith, own.net_is) in

@@ -38,13 +38,16 @@ module _ (planned : PlannedBoard) (unknown : Bool) (rows : List (List Bool)) (va
     pub stage_wraps : (time : ℕ) → suc time < length rows → value (suc time) node (moment 0) ≡ value time node (moment planned.plan.period)
     stage_wraps time within = run.steps time node (moment planned.plan.period) (moment 0) StartsAtOne within (has_first_stage planned node among)
 
-    pub stage_moves : (before time : ℕ) → before < planned.plan.period → suc time < length rows → value (suc time) node (moment (suc before)) ≡ value time node (moment before)
+    pub stage_moves : (before time : ℕ) → before < planned.plan.period → suc time < length rows
+        → value (suc time) node (moment (suc before)) ≡ value time node (moment before)
     stage_moves before time below within = run.steps time node (moment before) (moment (suc before)) StartsAtZero within (has_stage planned node among before below)
 
     -- ---- its cells
 
     -- a gate has its cover's value of what its nets are called
-    pub gate_bit : (time cell : ℕ) (ins : List ℕ) (cover : Cover) → time < length rows → slice_get planned.ordered.flat.cells cell ≡ Some (Gate ins cover) → slice_index planned.plan.chip_of cell ≡ node → length ins ≡ cover.inputs
+    pub gate_bit : (time cell : ℕ) (ins : List ℕ) (cover : Cover) → time < length rows
+        → slice_get planned.ordered.flat.cells cell ≡ Some (Gate ins cover) → slice_index planned.plan.chip_of cell ≡ node
+        → length ins ≡ cover.inputs
         → value time node (gate cell) ≡ cover_value cover (map (λ net. value time node (name_at planned node net)) ins)
     gate_bit time cell ins cover within at chip wide =
         let names = map (name_at planned node) ins in
@@ -54,7 +57,8 @@ module _ (planned : PlannedBoard) (unknown : Bool) (rows : List (List Bool)) (va
         ∙ ap (cover_value cover) (map-map (value time node) (name_at planned node) ins)
 
     -- a latch keeps its bit, and takes that of the net that it reads where the last microcycle's stage is 1
-    pub latch_bit : (time cell d : ℕ) (init : Init) → suc time < length rows → slice_get planned.ordered.flat.cells cell ≡ Some (Latch d init) → slice_index planned.plan.chip_of cell ≡ node
+    pub latch_bit : (time cell d : ℕ) (init : Init) → suc time < length rows
+        → slice_get planned.ordered.flat.cells cell ≡ Some (Latch d init) → slice_index planned.plan.chip_of cell ≡ node
         → value (suc time) node (kept cell) ≡ cond (value time node (moment planned.plan.period)) (value time node (name_at planned node d)) (value time node (kept cell))
     latch_bit time cell d init within at chip =
         run.steps time node (coming cell) (kept cell) init within (has_latch_register planned node among cell d init at chip)
@@ -62,7 +66,8 @@ module _ (planned : PlannedBoard) (unknown : Bool) (rows : List (List Bool)) (va
         ∙ choice_value (value time node (moment planned.plan.period)) (value time node (name_at planned node d)) (value time node (kept cell))
 
     -- and it starts at its initial value
-    pub latch_start : (cell d : ℕ) (init : Init) → 0 < length rows → slice_get planned.ordered.flat.cells cell ≡ Some (Latch d init) → slice_index planned.plan.chip_of cell ≡ node → value 0 node (kept cell) ≡ start_value unknown init
+    pub latch_start : (cell d : ℕ) (init : Init) → 0 < length rows → slice_get planned.ordered.flat.cells cell ≡ Some (Latch d init)
+        → slice_index planned.plan.chip_of cell ≡ node → value 0 node (kept cell) ≡ start_value unknown init
     latch_start cell d init some at chip = run.starts node (coming cell) (kept cell) init some (has_latch_register planned node among cell d init at chip)
 
     -- ---- a hop that reaches it
@@ -86,7 +91,8 @@ module _ (planned : PlannedBoard) (unknown : Bool) (rows : List (List Bool)) (va
       goes time one = value time node (moment one.at) && value time node one.name
 
       -- what goes out up to one of the users
-      sent_upto : (time number : ℕ) → time < length rows → number < length (user ∷ others) → value time node (sent at pin number) ≡ list_any (goes time) (take (suc number) (user ∷ others))
+      sent_upto : (time number : ℕ) → time < length rows → number < length (user ∷ others)
+          → value time node (sent at pin number) ≡ list_any (goes time) (take (suc number) (user ∷ others))
       sent_upto time zero inside below =
           run.tables time node (moment user.at ∷ user.name ∷ []) (sent at pin 0) true both inside (has_send planned node among at pin link linked leaves within user others used 0 user refl)
           ∙ both_value (value time node (moment user.at)) (value time node user.name) ∙ single (goes time user) where
@@ -110,7 +116,8 @@ module _ (planned : PlannedBoard) (unknown : Bool) (rows : List (List Bool)) (va
           ∙ ap (list_any (goes time)) (take_all (suc (length others)) (user ∷ others) (omega arith))
 
       -- so many microclocks later it has come so far
-      pub late_bit : (time later : ℕ) → later ≤ link.delay - 1 → later + time < length rows → value (later + time) node (late_name at pin (length others) later) ≡ value time node (sent at pin (length others))
+      pub late_bit : (time later : ℕ) → later ≤ link.delay - 1 → later + time < length rows
+          → value (later + time) node (late_name at pin (length others) later) ≡ value time node (sent at pin (length others))
       late_bit time zero below inside = let none : 0 + time ≡ time = omega arith in ap (λ (now : ℕ). value now node (sent at pin (length others))) none
       late_bit time (suc later) below inside =
           let one : suc later + time ≡ suc (later + time) = omega arith in
@@ -126,6 +133,7 @@ module _ (planned : PlannedBoard) (unknown : Bool) (rows : List (List Bool)) (va
 
   -- ---- an output of the host
 
-  pub result_bit : (time output net : ℕ) → time < length rows → slice_get planned.ordered.flat.outputs output ≡ Some net → value time 0 (result output) ≡ value time 0 (name_at planned 0 net)
+  pub result_bit : (time output net : ℕ) → time < length rows → slice_get planned.ordered.flat.outputs output ≡ Some net
+      → value time 0 (result output) ≡ value time 0 (name_at planned 0 net)
   result_bit time output net within at =
       run.tables time 0 (name_at planned 0 net ∷ []) (result output) true pass within (has_result planned output net at) ∙ pass_value (value time 0 (name_at planned 0 net))

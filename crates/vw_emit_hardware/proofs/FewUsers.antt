@@ -15,15 +15,18 @@ use Rattle.vw_emit_hardware.proofs.Users.{shares, user_of}
 -- ---- lists of which one element gives anything
 
 module _ {A X : Type 0} where
-  none_listed : (each : ℕ → A → List X) (number : ℕ) (xs : List A) → ((place : ℕ) (x : A) → slice_get xs place ≡ Some x → each (number + place) x ≡ []) → listed each number xs ≡ []
+  none_listed : (each : ℕ → A → List X) (number : ℕ) (xs : List A)
+      → ((place : ℕ) (x : A) → slice_get xs place ≡ Some x → each (number + place) x ≡ []) → listed each number xs ≡ []
   none_listed each number [] none = refl
   none_listed each number (x ∷ xs) none =
       let zero_on : number ≡ number + 0 = omega arith in
       ap₂ (λ (front back : List X). front ++ back) (ap (λ (k : ℕ). each k x) zero_on ∙ none 0 x refl)
       (none_listed each (suc number) xs (λ place y at. let one : suc number + place ≡ number + suc place = omega arith in ap (λ (k : ℕ). each k y) one ∙ none (suc place) y at))
 
-  pub few_listed : (each : ℕ → A → List X) (number : ℕ) (xs : List A) → ((place : ℕ) (x : A) → slice_get xs place ≡ Some x → length (each (number + place) x) ≤ 1)
-      → ((i j : ℕ) (x y : A) → slice_get xs i ≡ Some x → slice_get xs j ≡ Some y → 0 < length (each (number + i) x) → 0 < length (each (number + j) y) → i ≡ j) → length (listed each number xs) ≤ 1
+  pub few_listed : (each : ℕ → A → List X) (number : ℕ) (xs : List A)
+      → ((place : ℕ) (x : A) → slice_get xs place ≡ Some x → length (each (number + place) x) ≤ 1)
+      → ((i j : ℕ) (x y : A) → slice_get xs i ≡ Some x → slice_get xs j ≡ Some y → 0 < length (each (number + i) x) → 0 < length (each (number + j) y) → i ≡ j)
+      → length (listed each number xs) ≤ 1
   few_listed each number [] few apart = omega arith
   few_listed each number (x ∷ xs) few apart =
       by (each number x) refl
@@ -36,7 +39,8 @@ module _ {A X : Type 0} where
         next : (place : ℕ) → suc number + place ≡ number + suc place
         next place = omega arith
 
-        empty : (place : ℕ) (y : A) → slice_get xs place ≡ Some y → 0 < length (each number x) → (given : List X) → each (suc number + place) y ≡ given → given ≡ []
+        empty : (place : ℕ) (y : A) → slice_get xs place ≡ Some y → 0 < length (each number x) → (given : List X)
+            → each (suc number + place) y ≡ given → given ≡ []
         empty place y at some [] is = refl
         empty place y at some (z ∷ zs) is =
             let zero_on : number ≡ number + 0 = omega arith in
@@ -89,7 +93,8 @@ module _ (planned : PlannedBoard) (sound : IsSound planned) (link : Link) (pin :
     passes true place hop some = refl
     passes false place hop some = absurd (omega (arith, some))
 
-    apart : (i j : ℕ) (one other : Hop) → slice_get is.hops i ≡ Some one → slice_get is.hops j ≡ Some other → 0 < length (if leaves_by link pin at one then user_of planned link pin number is (0 + i) at one ∷ [] else [])
+    apart : (i j : ℕ) (one other : Hop) → slice_get is.hops i ≡ Some one → slice_get is.hops j ≡ Some other
+        → 0 < length (if leaves_by link pin at one then user_of planned link pin number is (0 + i) at one ∷ [] else [])
         → 0 < length (if leaves_by link pin at other then user_of planned link pin number is (0 + j) at other ∷ [] else []) → i ≡ j
     apart i j one other at_i at_j some some_too =
         (only_user planned sound wire i wire j is is one other there at_i there at_j (shares planned link pin one other at (passes (leaves_by link pin at one) (0 + i) one some) (passes (leaves_by link pin at other) (0 + j) other some_too))).1

@@ -20,17 +20,20 @@ record IsFirst (net node from : ℕ) (wires : List Wire) : Type 0 where
   found : find (brings net node) wires ≡ Some wire
 
 -- there is one, if there is any
-the_first : (net node from : ℕ) (wires : List Wire) (place : ℕ) (wire : Wire) → slice_get wires place ≡ Some wire → brings net node wire ≡ true → IsFirst net node from wires
+the_first : (net node from : ℕ) (wires : List Wire) (place : ℕ) (wire : Wire) → slice_get wires place ≡ Some wire
+    → brings net node wire ≡ true → IsFirst net node from wires
 the_first net node from [] place wire at is = absurd (none-some wire at)
 the_first net node from (first ∷ wires) place wire at is = by (brings net node first) refl place at (λ k there. the_first net node (suc from) wires k wire there is) where
   here : Bool → Option Local
   here test = option_or (cond test (Some (held from (length first.hops - 1))) None) (first_at (brought_by net node) (suc from) wires)
 
-  later : brings net node first ≡ false → (k : ℕ) → slice_get (first ∷ wires) k ≡ Some wire → ((j : ℕ) → slice_get wires j ≡ Some wire → IsFirst net node (suc from) wires) → IsFirst net node (suc from) wires
+  later : brings net node first ≡ false → (k : ℕ) → slice_get (first ∷ wires) k ≡ Some wire
+      → ((j : ℕ) → slice_get wires j ≡ Some wire → IsFirst net node (suc from) wires) → IsFirst net node (suc from) wires
   later own zero there rest = absurd (true≢false (sym (ap (brings net node) (same_Some first wire there) ∙ is) ∙ own))
   later own (suc k) there rest = rest k there
 
-  by : (passes : Bool) → brings net node first ≡ passes → (k : ℕ) → slice_get (first ∷ wires) k ≡ Some wire → ((j : ℕ) → slice_get wires j ≡ Some wire → IsFirst net node (suc from) wires) → IsFirst net node from (first ∷ wires)
+  by : (passes : Bool) → brings net node first ≡ passes → (k : ℕ) → slice_get (first ∷ wires) k ≡ Some wire
+      → ((j : ℕ) → slice_get wires j ≡ Some wire → IsFirst net node (suc from) wires) → IsFirst net node from (first ∷ wires)
   by true own k there rest =
       let none : from ≡ from + 0 = omega arith in
       record {
@@ -63,7 +66,8 @@ pub record BroughtBy (planned : PlannedBoard) (net node : ℕ) : Type 0 where
   pub lead : brought_at planned node net ≡ after_last planned.board.links wire.hops
 
 -- there is one wherever a wire brings the net
-pub brought_by_first : (planned : PlannedBoard) (net node place : ℕ) (wire : Wire) → slice_get planned.plan.wires place ≡ Some wire → brings net node wire ≡ true → BroughtBy planned net node
+pub brought_by_first : (planned : PlannedBoard) (net node place : ℕ) (wire : Wire) → slice_get planned.plan.wires place ≡ Some wire
+    → brings net node wire ≡ true → BroughtBy planned net node
 brought_by_first planned net node place wire at is =
     let first = the_first net node 0 planned.plan.wires place wire at is in
     let none : 0 + first.place ≡ first.place = omega arith in

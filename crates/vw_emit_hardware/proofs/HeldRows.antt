@@ -23,7 +23,8 @@ copy_at x (suc count) zero below = refl
 copy_at x (suc count) (suc place) below = copy_at x count place (omega (arith, below))
 
 -- each row is held for all microclocks of its clock
-pub row_held : (planned : PlannedBoard) (rows : List (List Bool)) (place : ℕ) (row : List Bool) (microcycle : ℕ) → slice_get rows place ≡ Some row → microcycle ≤ planned.plan.period
+pub row_held : (planned : PlannedBoard) (rows : List (List Bool)) (place : ℕ) (row : List Bool) (microcycle : ℕ)
+    → slice_get rows place ≡ Some row → microcycle ≤ planned.plan.period
     → slice_get (held_rows planned rows) (place * (planned.plan.period + 1) + microcycle) ≡ Some row
 row_held planned [] place row microcycle at early = absurd (none-some row at)
 row_held planned (first ∷ rows) zero row microcycle at early =
@@ -41,7 +42,9 @@ row_held planned (first ∷ rows) (suc place) row microcycle at early =
 -- ---- bits that are shown
 
 -- what each element shows, as the values of a function
-pub listed_values : {X : Type 0} (shown : ℕ → Bool) (bit : X → Bool) (number : ℕ) (xs : List X) → ((place : ℕ) (x : X) → slice_get xs place ≡ Some x → shown (number + place) ≡ bit x) → listed (λ k x. shown k ∷ []) number xs ≡ map bit xs
+pub listed_values : {X : Type 0} (shown : ℕ → Bool) (bit : X → Bool) (number : ℕ) (xs : List X)
+    → ((place : ℕ) (x : X) → slice_get xs place ≡ Some x → shown (number + place) ≡ bit x)
+    → listed (λ k x. shown k ∷ []) number xs ≡ map bit xs
 listed_values shown bit number [] agree = refl
 listed_values shown bit number (x ∷ xs) agree =
     let none : number ≡ number + 0 = omega arith in
@@ -83,7 +86,8 @@ pub next_long : (flat : Flat) (row state : List Bool) → length (next_state fla
 next_long flat row state = length-map (latch_inputs flat.cells) (net_value flat row state) ∙ inputs_long flat.cells
 
 -- the bit of a latch at first
-pub start_bit : (unknown : Bool) (cells : List Cell) (cell d : ℕ) (init : Init) → slice_get cells cell ≡ Some (Latch d init) → start_value unknown init ≡ slice_index_or (start_values unknown cells) (latch_count (take cell cells)) false
+pub start_bit : (unknown : Bool) (cells : List Cell) (cell d : ℕ) (init : Init) → slice_get cells cell ≡ Some (Latch d init)
+    → start_value unknown init ≡ slice_index_or (start_values unknown cells) (latch_count (take cell cells)) false
 start_bit unknown [] cell d init at = absurd (none-some (Latch d init) at)
 start_bit unknown (Gate ins cover ∷ cells) zero d init at = cc
 start_bit unknown (Latch e other ∷ cells) zero d init at = inits (same_Some (Latch e other) (Latch d init) at) where

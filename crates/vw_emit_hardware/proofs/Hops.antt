@@ -120,7 +120,8 @@ module _ (planned : PlannedBoard) (sound : IsSound planned) (unknown : Bool) (ro
         ∙ decided goes all_users (user_of planned link hop.pin wire is place hop.at hop) (own_bit is.net) (is_user planned link hop.pin wire place is hop there stands facts.sent leaves) (own_goes come) (goes_alone come)
 
     -- while it is under way it is in the registers of its pin
-    pub under_way : HaveCome hop.at → (later : ℕ) → later ≤ link.delay - 1 → value (start + (hop.at + later)) link.from (late_name facts.over.number hop.pin (length split.others) later) ≡ own_bit is.net
+    pub under_way : HaveCome hop.at → (later : ℕ) → later ≤ link.delay - 1
+        → value (start + (hop.at + later)) link.from (late_name facts.over.number hop.pin (length split.others) later) ≡ own_bit is.net
     unfolding goes
     under_way come later below =
         let sent_in = facts.sent in
@@ -145,7 +146,8 @@ module _ (planned : PlannedBoard) (sound : IsSound planned) (unknown : Bool) (ro
         ∙ under_way come (link.delay - 1) (omega arith)
 
     -- so its register has that value in the next microcycle, and keeps it
-    next_held : (microcycle : ℕ) → suc microcycle ≤ planned.plan.period → ((earlier : ℕ) → earlier ≤ microcycle → HaveCome earlier) → arrival planned.board.links hop ≤ microcycle
+    next_held : (microcycle : ℕ) → suc microcycle ≤ planned.plan.period → ((earlier : ℕ) → earlier ≤ microcycle → HaveCome earlier)
+        → arrival planned.board.links hop ≤ microcycle
         → value (start + suc microcycle) hop.to (held wire place) ≡ own_bit is.net
     next_held microcycle early come arrived =
         let over = facts.over in

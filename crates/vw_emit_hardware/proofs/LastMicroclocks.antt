@@ -30,7 +30,8 @@ use Rattle.vw_emit_hardware.proofs.Nets.{IsThere, bit, net_count, net_is, read_i
 
 module _ (planned : PlannedBoard) (sound : IsSound planned) where
   -- a net of a node has its lead by its driver, another one by its arrival
-  own_lead : (node net : ℕ) → eqb (home planned net) node ≡ true → lead planned node net ≡ greatest_read (lead planned node) (driving_cell planned.ordered.flat net)
+  own_lead : (node net : ℕ) → eqb (home planned net) node ≡ true
+      → lead planned node net ≡ greatest_read (lead planned node) (driving_cell planned.ordered.flat net)
   own_lead node net own =
       lead-by_driver planned node net ∙ ap (λ (test : Bool). cond test (greatest_read (lead planned node) (driving_cell planned.ordered.flat net)) (brought_at planned node net)) own
 
@@ -67,7 +68,8 @@ module _ (planned : PlannedBoard) (sound : IsSound planned) where
     by (inr apart) (inr for) = brought_lead 0 net apart for
 
   -- and a chip what a latch reads
-  latch_lead : (cell d : ℕ) (init : Init) → slice_get planned.ordered.flat.cells cell ≡ Some (Latch d init) → lead planned (slice_index planned.plan.chip_of cell) d ≤ planned.plan.period
+  latch_lead : (cell d : ℕ) (init : Init) → slice_get planned.ordered.flat.cells cell ≡ Some (Latch d init)
+      → lead planned (slice_index planned.plan.chip_of cell) d ≤ planned.plan.period
   latch_lead cell d init at =
       let inputs = planned.ordered.flat.inputs in
       let no_input : nat_lt (inputs + cell) inputs ≡ false = le-ltb (inputs + cell) inputs (omega arith) in
@@ -88,7 +90,8 @@ module _ (planned : PlannedBoard) (sound : IsSound planned) (unknown : Bool) (ro
   last = start + planned.plan.period
 
   -- a net whose lead is over by then has its value
-  last_net : (net node : ℕ) → net < net_count planned → IsThere planned net node → lead planned node net ≤ planned.plan.period → value last node (name_at planned node net) ≡ own_bit net
+  last_net : (net node : ℕ) → net < net_count planned → IsThere planned net node → lead planned node net ≤ planned.plan.period
+      → value last node (name_at planned node net) ≡ own_bit net
   last_net = net_is planned sound unknown rows value run start row state clock planned.plan.period (omega arith) (have_come planned sound unknown rows value run start row state clock planned.plan.period (omega arith))
 
   -- the host shows the outputs
@@ -105,7 +108,8 @@ module _ (planned : PlannedBoard) (sound : IsSound planned) (unknown : Bool) (ro
   -- where the run goes on, the next clock begins with the next state
   pub next_start : suc last < length rows → IsAtStart planned value (suc last) (next_state planned.ordered.flat row state)
   next_start goes_on = record { stages = stages; latches = latches } where
-    stages : (node microcycle : ℕ) → node ≤ planned.board.chips → microcycle ≤ planned.plan.period → value (suc last) node (moment microcycle) ≡ eqb 0 microcycle
+    stages : (node microcycle : ℕ) → node ≤ planned.board.chips → microcycle ≤ planned.plan.period
+        → value (suc last) node (moment microcycle) ≡ eqb 0 microcycle
     stages node zero among small =
         stage_wraps planned unknown rows value run node among last goes_on
         ∙ stage_is planned sound unknown rows value run start row state clock planned.plan.period node planned.plan.period (omega arith) among (omega arith)

@@ -69,7 +69,8 @@ module _ (planned : PlannedBoard) (node : ℕ) (among : node ≤ planned.board.c
 
   -- ---- cells
 
-  in_cells : (items : ℕ → ℕ → Cell → List LocalItem) (item : LocalItem) (cell : ℕ) (is : Cell) → slice_get planned.ordered.flat.cells cell ≡ Some is → slice_index planned.plan.chip_of cell ≡ node
+  in_cells : (items : ℕ → ℕ → Cell → List LocalItem) (item : LocalItem) (cell : ℕ) (is : Cell)
+      → slice_get planned.ordered.flat.cells cell ≡ Some is → slice_index planned.plan.chip_of cell ≡ node
       → StandsIn item (items node cell is) → StandsIn item (cell_items items planned node)
   in_cells items item cell is at chip stands =
       let each = λ (number : ℕ) (one : Cell). if slice_index planned.plan.chip_of number == node then items node number one else [] in
@@ -77,7 +78,8 @@ module _ (planned : PlannedBoard) (node : ℕ) (among : node ≤ planned.board.c
       let here : StandsIn item (each (0 + cell) is) = rw none (has_when (slice_index planned.plan.chip_of cell == node) item (items node cell is) (eq-eqb (slice_index planned.plan.chip_of cell) node chip) stands) in
       has_listed item each 0 planned.ordered.flat.cells cell is at here
 
-  pub has_gate : (cell : ℕ) (ins : List ℕ) (cover : Cover) → slice_get planned.ordered.flat.cells cell ≡ Some (Gate ins cover) → slice_index planned.plan.chip_of cell ≡ node
+  pub has_gate : (cell : ℕ) (ins : List ℕ) (cover : Cover) → slice_get planned.ordered.flat.cells cell ≡ Some (Gate ins cover)
+      → slice_index planned.plan.chip_of cell ≡ node
       → IsItem planned node (cover_table (map (name_at planned node) ins) (gate cell) cover)
   has_gate cell ins cover at chip =
       let item = cover_table (map (name_at planned node) ins) (gate cell) cover in
@@ -86,14 +88,17 @@ module _ (planned : PlannedBoard) (node : ℕ) (among : node ≤ planned.board.c
   abbrev pub latch_table : ℕ → ℕ → LocalItem
   latch_table cell d = table (moment planned.plan.period ∷ name_at planned node d ∷ kept cell ∷ []) (coming cell) true choice
 
-  in_latches : (item : LocalItem) (cell d : ℕ) (init : Init) → slice_get planned.ordered.flat.cells cell ≡ Some (Latch d init) → slice_index planned.plan.chip_of cell ≡ node
+  in_latches : (item : LocalItem) (cell d : ℕ) (init : Init) → slice_get planned.ordered.flat.cells cell ≡ Some (Latch d init)
+      → slice_index planned.plan.chip_of cell ≡ node
       → StandsIn item (latch_items planned node cell (Latch d init)) → IsItem planned node item
   in_latches item cell d init at chip stands = past_gates item (stands_left item latches behind_latches (in_cells (latch_items planned) item cell (Latch d init) at chip stands))
 
-  pub has_latch_table : (cell d : ℕ) (init : Init) → slice_get planned.ordered.flat.cells cell ≡ Some (Latch d init) → slice_index planned.plan.chip_of cell ≡ node → IsItem planned node (latch_table cell d)
+  pub has_latch_table : (cell d : ℕ) (init : Init) → slice_get planned.ordered.flat.cells cell ≡ Some (Latch d init)
+      → slice_index planned.plan.chip_of cell ≡ node → IsItem planned node (latch_table cell d)
   has_latch_table cell d init at chip = in_latches (latch_table cell d) cell d init at chip (0, refl)
 
-  pub has_latch_register : (cell d : ℕ) (init : Init) → slice_get planned.ordered.flat.cells cell ≡ Some (Latch d init) → slice_index planned.plan.chip_of cell ≡ node → IsItem planned node (register (coming cell) (kept cell) init)
+  pub has_latch_register : (cell d : ℕ) (init : Init) → slice_get planned.ordered.flat.cells cell ≡ Some (Latch d init)
+      → slice_index planned.plan.chip_of cell ≡ node → IsItem planned node (register (coming cell) (kept cell) init)
   has_latch_register cell d init at chip = in_latches (register (coming cell) (kept cell) init) cell d init at chip (1, refl)
 
   -- ---- a hop that reaches the node, over a link
@@ -163,7 +168,8 @@ module _ (planned : PlannedBoard) (node : ℕ) (among : node ≤ planned.board.c
 
 -- ---- outputs, at the host
 
-pub has_result : (planned : PlannedBoard) (output net : ℕ) → slice_get planned.ordered.flat.outputs output ≡ Some net → IsItem planned 0 (table (name_at planned 0 net ∷ []) (result output) true pass)
+pub has_result : (planned : PlannedBoard) (output net : ℕ) → slice_get planned.ordered.flat.outputs output ≡ Some net
+    → IsItem planned 0 (table (name_at planned 0 net ∷ []) (result output) true pass)
 has_result planned output net at =
     let none : 0 + output ≡ output = omega arith in
     let item = table (name_at planned 0 net ∷ []) (result output) true pass in

@@ -25,17 +25,20 @@ module _ (planned : PlannedBoard) (unknown : Bool) (rows : List (List Bool)) (va
   own : IsClock planned (held_rows planned rows) value (clock * (planned.plan.period + 1)) row state
   own = clock_of planned sound unknown rows value run clock row state is_clock
 
-  pub stages : (microcycle node other : ℕ) → microcycle ≤ planned.plan.period → node ≤ planned.board.chips → other ≤ planned.plan.period → value (microclock planned clock microcycle) node (moment other) ≡ eqb microcycle other
+  pub stages : (microcycle node other : ℕ) → microcycle ≤ planned.plan.period → node ≤ planned.board.chips → other ≤ planned.plan.period
+      → value (microclock planned clock microcycle) node (moment other) ≡ eqb microcycle other
   stages = stage_is planned sound unknown (held_rows planned rows) value run (clock * (planned.plan.period + 1)) row state own
 
-  pub nets : (microcycle net node : ℕ) → microcycle ≤ planned.plan.period → net < net_count planned → IsThere planned net node → lead planned node net ≤ microcycle
+  pub nets : (microcycle net node : ℕ) → microcycle ≤ planned.plan.period → net < net_count planned → IsThere planned net node
+      → lead planned node net ≤ microcycle
       → value (microclock planned clock microcycle) node (name_at planned node net) ≡ net_value planned.ordered.flat row state net
   nets microcycle net node early small there over =
       let come = have_come planned sound unknown (held_rows planned rows) value run (clock * (planned.plan.period + 1)) row state own microcycle early in
       net_is planned sound unknown (held_rows planned rows) value run (clock * (planned.plan.period + 1)) row state own microcycle early come net node small (⊎_elim (λ home. inl home) (λ needed. inr (needed_wire planned sound net node needed)) there) over
 
   module _ (wire place : ℕ) (is : Wire) (hop : Hop) (there : slice_get planned.plan.wires wire ≡ Some is) (stands : slice_get is.hops place ≡ Some hop) where
-    pub registers : (microcycle : ℕ) → microcycle ≤ planned.plan.period → arrival planned.board.links hop < microcycle → value (microclock planned clock microcycle) hop.to (held wire place) ≡ net_value planned.ordered.flat row state is.net
+    pub registers : (microcycle : ℕ) → microcycle ≤ planned.plan.period → arrival planned.board.links hop < microcycle
+        → value (microclock planned clock microcycle) hop.to (held wire place) ≡ net_value planned.ordered.flat row state is.net
     registers microcycle early arrived = have_come planned sound unknown (held_rows planned rows) value run (clock * (planned.plan.period + 1)) row state own microcycle early wire place is hop there stands arrived
 
     pub delays : (at later : ℕ) (link : Link) → slice_get planned.board.links at ≡ Some link → carries hop link ≡ true → later + 1 < link.delay

@@ -40,7 +40,8 @@ abbrev pub IsThere : PlannedBoard → ℕ → ℕ → Type 0
 IsThere planned net node = (home planned net ≡ node) ⊎ WireFor planned net node
 
 -- what a cell reads is there on its chip
-pub read_is_there : (planned : PlannedBoard) → IsSound planned → (cell : ℕ) (is : Cell) → slice_get planned.ordered.flat.cells cell ≡ Some is → (place default : ℕ) → place < length (read_nets is)
+pub read_is_there : (planned : PlannedBoard) → IsSound planned → (cell : ℕ) (is : Cell)
+    → slice_get planned.ordered.flat.cells cell ≡ Some is → (place default : ℕ) → place < length (read_nets is)
     → let net = get_or (read_nets is) place default in (net < net_count planned) × IsThere planned net (slice_index planned.plan.chip_of cell)
 read_is_there planned sound cell is at place default inside =
     let nets = read_nets is in
@@ -65,7 +66,8 @@ module _ (planned : PlannedBoard) (sound : IsSound planned) (unknown : Bool) (ro
     IsKnown net = (node : ℕ) → net < net_count planned → IsThere planned net node → lead planned node net ≤ microcycle → value (start + microcycle) node (name_at planned node net) ≡ bit net
 
     -- at another node
-    brought_known : (net node : ℕ) → eqb (home planned net) node ≡ false → IsThere planned net node → lead planned node net ≤ microcycle → value (start + microcycle) node (name_at planned node net) ≡ bit net
+    brought_known : (net node : ℕ) → eqb (home planned net) node ≡ false → IsThere planned net node → lead planned node net ≤ microcycle
+        → value (start + microcycle) node (name_at planned node net) ≡ bit net
     brought_known net node apart (inl own) over = absurd (true≢false (sym (eq-eqb (home planned net) node own) ∙ apart))
     brought_known net node apart (inr for) over =
         let brought : brings net node for.wire ≡ true = subst (λ (n : ℕ). brings n node for.wire ≡ true) for.brought (subst (λ (n : ℕ). brings for.wire.net n for.wire ≡ true) for.to (own_pair for.wire)) in
@@ -105,7 +107,8 @@ module _ (planned : PlannedBoard) (sound : IsSound planned) (unknown : Bool) (ro
         ∙ sym (net_value-latch planned.ordered.flat row state number latch)
 
     -- at its own node
-    own_known : (net node : ℕ) → All IsKnown (gate_inputs (driving_cell planned.ordered.flat net)) → net < net_count planned → eqb (home planned net) node ≡ true → lead planned node net ≤ microcycle
+    own_known : (net node : ℕ) → All IsKnown (gate_inputs (driving_cell planned.ordered.flat net)) → net < net_count planned
+        → eqb (home planned net) node ≡ true → lead planned node net ≤ microcycle
         → value (start + microcycle) node (name_at planned node net) ≡ bit net
     own_known net node reads small own over = by (nat_lt net planned.ordered.flat.inputs) refl where
       name : name_at planned node net ≡ own_name planned.ordered.flat net
@@ -140,7 +143,8 @@ module _ (planned : PlannedBoard) (sound : IsSound planned) (unknown : Bool) (ro
           ∙ ap bit back
 
     -- so every net has its value where it is, from its lead on
-    pub net_is : (net node : ℕ) → net < net_count planned → IsThere planned net node → lead planned node net ≤ microcycle → value (start + microcycle) node (name_at planned node net) ≡ bit net
+    pub net_is : (net node : ℕ) → net < net_count planned → IsThere planned net node → lead planned node net ≤ microcycle
+        → value (start + microcycle) node (name_at planned node net) ≡ bit net
     net_is net = every_net planned.ordered (λ from one. IsKnown one) (λ from to one later known. known) step net where
       step : (from one : ℕ) → All IsKnown (gate_inputs (driving_cell planned.ordered.flat one)) → IsKnown one
       step from one reads node small there over =

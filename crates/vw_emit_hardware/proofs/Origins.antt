@@ -91,7 +91,8 @@ module _ (planned : PlannedBoard) (node : ℕ) where
 
   pub from_gates : (item : LocalItem) → StandsIn item (cell_items (gate_items planned) planned node) → IsGate item
   from_gates item stands = let of = from_cells (gate_items planned) item stands in by of.cell of.is of.at of.chip of.stands where
-    by : (cell : ℕ) (is : Cell) → slice_get planned.ordered.flat.cells cell ≡ Some is → slice_index planned.plan.chip_of cell ≡ node → StandsIn item (gate_items planned node cell is) → IsGate item
+    by : (cell : ℕ) (is : Cell) → slice_get planned.ordered.flat.cells cell ≡ Some is → slice_index planned.plan.chip_of cell ≡ node
+        → StandsIn item (gate_items planned node cell is) → IsGate item
     by cell (Gate ins cover) at chip here = record { cell = cell; ins = ins; cover = cover; at = at; chip = chip; same = only (cover_table (map (name_at planned node) ins) (gate cell) cover) item here }
     by cell (Latch d init) at chip here = absurd (none-some item here.1)
 
@@ -108,7 +109,8 @@ module _ (planned : PlannedBoard) (node : ℕ) where
 
   pub from_latches : (item : LocalItem) → StandsIn item (cell_items (latch_items planned) planned node) → IsLatch item
   from_latches item stands = let of = from_cells (latch_items planned) item stands in by of.cell of.is of.at of.chip of.stands where
-    by : (cell : ℕ) (is : Cell) → slice_get planned.ordered.flat.cells cell ≡ Some is → slice_index planned.plan.chip_of cell ≡ node → StandsIn item (latch_items planned node cell is) → IsLatch item
+    by : (cell : ℕ) (is : Cell) → slice_get planned.ordered.flat.cells cell ≡ Some is → slice_index planned.plan.chip_of cell ≡ node
+        → StandsIn item (latch_items planned node cell is) → IsLatch item
     by cell (Gate ins cover) at chip here = absurd (none-some item here.1)
     by cell (Latch d init) at chip here = record { cell = cell; d = d; init = init; at = at; chip = chip; same = either (latch_table cell d) (register (coming cell) (kept cell) init) item here }
 
@@ -181,7 +183,8 @@ module _ (planned : PlannedBoard) (node : ℕ) where
     pub used : users planned link pin ≡ user ∷ others
     pub item_is : OfPin at pin (link.delay - 1) user others item
 
-  pub of_pin : (at pin lag : ℕ) (user : User) (others : List User) (item : LocalItem) → StandsIn item (pin_items at pin lag (user ∷ others)) → OfPin at pin lag user others item
+  pub of_pin : (at pin lag : ℕ) (user : User) (others : List User) (item : LocalItem) → StandsIn item (pin_items at pin lag (user ∷ others))
+      → OfPin at pin lag user others item
   of_pin at pin lag user others item stands =
       let sent = listed (λ number one. send_item at pin number one ∷ []) 0 (user ∷ others) in
       let late = gather (λ later. delay_item at pin (length others) later ∷ []) lag in
@@ -206,7 +209,8 @@ module _ (planned : PlannedBoard) (node : ℕ) where
       let none : of_link.place ≡ 0 + of_link.place = omega arith in
       by of_link.place given.number link of_link.at (eqb-true link.from node own.0) given.below (users planned link given.number) refl
       (subst (λ (at : ℕ). StandsIn item (pin_items at given.number (link.delay - 1) (users planned link given.number))) (sym none) given.stands) where
-        by : (at pin : ℕ) (link : Link) → slice_get planned.board.links at ≡ Some link → link.from ≡ node → pin < link.width → (all : List User) → users planned link pin ≡ all → StandsIn item (pin_items at pin (link.delay - 1) all) → IsPin item
+        by : (at pin : ℕ) (link : Link) → slice_get planned.board.links at ≡ Some link → link.from ≡ node → pin < link.width
+            → (all : List User) → users planned link pin ≡ all → StandsIn item (pin_items at pin (link.delay - 1) all) → IsPin item
         by at pin link linked from within [] used here = absurd (none-some item here.1)
         by at pin link linked from within (user ∷ others) used here = record {
           at = at;

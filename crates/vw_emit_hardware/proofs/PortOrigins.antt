@@ -41,7 +41,8 @@ module _ (planned : PlannedBoard) where
   abbrev end_ports : (Link → ℕ) → (ℕ → ℕ → Local) → ℕ → List Local
   end_ports end port node = listed (λ at link. if end link == node then pin_ports (port at) planned link else []) 0 planned.board.links
 
-  from_ends : (end : Link → ℕ) (port : ℕ → ℕ → Local) (node : ℕ) (net : Local) → StandsIn net (end_ports end port node) → (is : IsPinPort port net) × (end is.link ≡ node)
+  from_ends : (end : Link → ℕ) (port : ℕ → ℕ → Local) (node : ℕ) (net : Local) → StandsIn net (end_ports end port node)
+      → (is : IsPinPort port net) × (end is.link ≡ node)
   from_ends end port node net stands =
       let by = from_listed net (λ at link. if end link == node then pin_ports (port at) planned link else []) 0 planned.board.links stands in
       let own = from_when (end by.item == node) net (pin_ports (port (0 + by.place)) planned by.item) by.stands in
@@ -50,7 +51,8 @@ module _ (planned : PlannedBoard) where
       let none : by.place ≡ 0 + by.place = omega arith in
       (record { at = by.place; pin = given.number; link = by.item; linked = by.at; used = record { within = given.below; some = user.0 }; same = ap (λ (at : ℕ). port at given.number) none ∙ user.1 }, eqb-true (end by.item) node own.0)
 
-  has_end : (end : Link → ℕ) (port : ℕ → ℕ → Local) (node at pin : ℕ) (link : Link) → slice_get planned.board.links at ≡ Some link → end link ≡ node → IsUsed planned link pin → StandsIn (port at pin) (end_ports end port node)
+  has_end : (end : Link → ℕ) (port : ℕ → ℕ → Local) (node at pin : ℕ) (link : Link) → slice_get planned.board.links at ≡ Some link
+      → end link ≡ node → IsUsed planned link pin → StandsIn (port at pin) (end_ports end port node)
   has_end end port node at pin link linked is used =
       let none : 0 + at ≡ at = omega arith in
       let net = port at pin in
@@ -82,7 +84,8 @@ module _ (planned : PlannedBoard) where
         stands_left (column number) (cond (node == 0) columns []) (end_ports (λ (link : Link). link.to) pin_in node)
         (has_when (node == 0) (column number) columns (eq-eqb node 0 host) (has_gather (column number) (λ k. column k ∷ []) planned.ordered.flat.inputs number within (0, refl)))
 
-    pub has_pin_in : (at pin : ℕ) (link : Link) → slice_get planned.board.links at ≡ Some link → link.to ≡ node → IsUsed planned link pin → StandsIn (pin_in at pin) (node_inputs planned node)
+    pub has_pin_in : (at pin : ℕ) (link : Link) → slice_get planned.board.links at ≡ Some link → link.to ≡ node → IsUsed planned link pin
+        → StandsIn (pin_in at pin) (node_inputs planned node)
     has_pin_in at pin link linked to used =
         let columns = gather (λ (k : ℕ). column k ∷ []) planned.ordered.flat.inputs in
         stands_right (pin_in at pin) (cond (node == 0) columns []) (end_ports (λ (one : Link). one.to) pin_in node) (has_end (λ (one : Link). one.to) pin_in node at pin link linked to used)
@@ -125,7 +128,8 @@ module _ (planned : PlannedBoard) where
         let none : of.place ≡ 0 + of.place = omega arith in
         let own = from_when (slice_index planned.plan.chip_of (0 + of.place) == node) net (latch_port (0 + of.place) of.item) of.stands in
         by of.place of.item of.at (ap (slice_index planned.plan.chip_of) none ∙ eqb-true (slice_index planned.plan.chip_of (0 + of.place)) node own.0) (subst (λ (cell : ℕ). StandsIn net (latch_port cell of.item)) (sym none) own.1) where
-          by : (cell : ℕ) (is : Cell) → slice_get planned.ordered.flat.cells cell ≡ Some is → slice_index planned.plan.chip_of cell ≡ node → StandsIn net (latch_port cell is) → IsLatchPort net
+          by : (cell : ℕ) (is : Cell) → slice_get planned.ordered.flat.cells cell ≡ Some is → slice_index planned.plan.chip_of cell ≡ node
+              → StandsIn net (latch_port cell is) → IsLatchPort net
           by cell (Gate ins cover) at chip here = absurd (none-some net here.1)
           by cell (Latch d init) at chip here = record { cell = cell; d = d; init = init; at = at; chip = chip; same = only_at (kept cell) net here.0 here.1 }
 
@@ -137,7 +141,8 @@ module _ (planned : PlannedBoard) where
           by true is there = a_result (from_results net is there)
           by false is there = a_latch (from_latches net there)
 
-    pub has_pin_out : (at pin : ℕ) (link : Link) → slice_get planned.board.links at ≡ Some link → link.from ≡ node → IsUsed planned link pin → StandsIn (pin_out at pin) (node_outputs planned node)
+    pub has_pin_out : (at pin : ℕ) (link : Link) → slice_get planned.board.links at ≡ Some link → link.from ≡ node → IsUsed planned link pin
+        → StandsIn (pin_out at pin) (node_outputs planned node)
     has_pin_out at pin link linked from used =
         stands_left (pin_out at pin) (end_ports (λ (one : Link). one.from) pin_out node) (cond (eqb node 0) host_ports latch_ports) (has_end (λ (one : Link). one.from) pin_out node at pin link linked from used)
 
@@ -146,7 +151,8 @@ module _ (planned : PlannedBoard) where
         let there = has_gather (result output) (λ k. result k ∷ []) (length planned.ordered.flat.outputs) output within (0, refl) in
         stands_right (result output) (end_ports (λ (one : Link). one.from) pin_out node) (cond (eqb node 0) host_ports latch_ports) (subst (λ (test : Bool). StandsIn (result output) (cond test host_ports latch_ports)) (sym (eq-eqb node 0 host)) there)
 
-    pub has_latch_port : (cell d : ℕ) (init : Init) → slice_get planned.ordered.flat.cells cell ≡ Some (Latch d init) → slice_index planned.plan.chip_of cell ≡ node → 1 ≤ node → StandsIn (kept cell) (node_outputs planned node)
+    pub has_latch_port : (cell d : ℕ) (init : Init) → slice_get planned.ordered.flat.cells cell ≡ Some (Latch d init)
+        → slice_index planned.plan.chip_of cell ≡ node → 1 ≤ node → StandsIn (kept cell) (node_outputs planned node)
     has_latch_port cell d init at chip chips =
         let none : 0 + cell ≡ cell = omega arith in
         let own : StandsIn (kept cell) (if slice_index planned.plan.chip_of (0 + cell) == node then latch_port (0 + cell) (Latch d init) else []) =

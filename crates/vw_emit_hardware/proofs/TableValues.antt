@@ -45,7 +45,8 @@ any_row (suc inputs) [] long = absurd (omega (arith, long))
 any_row (suc inputs) (bit ∷ bits) long = any_row inputs bits (omega (arith, long))
 
 -- rows match as their marks do
-same_rows : (bits : List Bool) (rows : List Row) → list_any (λ marks. row_matches marks bits) (cover_marks rows) ≡ list_any (λ row. row_matches row.marks bits) rows
+same_rows : (bits : List Bool) (rows : List Row)
+    → list_any (λ marks. row_matches marks bits) (cover_marks rows) ≡ list_any (λ row. row_matches row.marks bits) rows
 same_rows bits [] = refl
 same_rows bits (row ∷ rows) = ap (λ (found : Bool). row_matches row.marks bits || found) (same_rows bits rows)
 

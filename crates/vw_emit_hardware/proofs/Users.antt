@@ -17,7 +17,8 @@ use Rattle.vw_emit_hardware.specs.Names.{sent_name}
 -- ---- tests that one element decides
 
 -- where an element has a bit, and no element passes a test unless the bit is 1, the bit is whether any passes
-pub decided : {X : Type 0} (test : X → Bool) (xs : List X) (x : X) (bit : Bool) → StandsIn x xs → test x ≡ bit → ((y : X) → StandsIn y xs → test y ≡ true → bit ≡ true) → list_any test xs ≡ bit
+pub decided : {X : Type 0} (test : X → Bool) (xs : List X) (x : X) (bit : Bool) → StandsIn x xs → test x ≡ bit
+    → ((y : X) → StandsIn y xs → test y ≡ true → bit ≡ true) → list_any test xs ≡ bit
 decided test xs x true stands is others = any_stands test x xs stands is
 decided test xs x false stands is others =
     ⊎_elim (λ any. let found = from_any test xs any in absurd (true≢false (sym (others found.0 found.1 found.2)))) (λ none. none) (cases_Bool (list_any test xs))
@@ -69,7 +70,8 @@ module _ (planned : PlannedBoard) (link : Link) (pin : ℕ) where
           first x y (suc place) is = absurd (none-some y is)
 
   -- each hop that leaves by the pin is a user
-  pub is_user : (wire place : ℕ) (is : Wire) (hop : Hop) → slice_get planned.plan.wires wire ≡ Some is → slice_get is.hops place ≡ Some hop → hop.at < planned.plan.period → leaves_by link pin hop.at hop ≡ true
+  pub is_user : (wire place : ℕ) (is : Wire) (hop : Hop) → slice_get planned.plan.wires wire ≡ Some is → slice_get is.hops place ≡ Some hop
+      → hop.at < planned.plan.period → leaves_by link pin hop.at hop ≡ true
       → StandsIn (user_of wire is place hop.at hop) (users planned link pin)
   is_user wire place is hop there stands below leaves =
       let user = user_of wire is place hop.at hop in
@@ -98,7 +100,8 @@ module _ (planned : PlannedBoard) (link : Link) (pin : ℕ) where
       (and_from (one.pin == other.pin) (one.at == other.at) (eq-eqb one.pin other.pin slot) (eq-eqb one.at other.at time))
 
   -- so a user in the microcycle of a hop sends what the hop sends
-  pub one_sends : IsSound planned → (wire place : ℕ) (is : Wire) (hop : Hop) → slice_get planned.plan.wires wire ≡ Some is → slice_get is.hops place ≡ Some hop → leaves_by link pin hop.at hop ≡ true
+  pub one_sends : IsSound planned → (wire place : ℕ) (is : Wire) (hop : Hop) → slice_get planned.plan.wires wire ≡ Some is
+      → slice_get is.hops place ≡ Some hop → leaves_by link pin hop.at hop ≡ true
       → (user : User) → StandsIn user (users planned link pin) → user.at ≡ hop.at → user.name ≡ sent_name planned wire is place hop
   one_sends sound wire place is hop there stands leaves user standing same =
       let own = user_hop user standing in
@@ -111,7 +114,8 @@ module _ (planned : PlannedBoard) (link : Link) (pin : ℕ) where
         together w w' k k' x x' h h' a b c d = λ i. sent_name planned (a i) (c i) (b i) (d i)
 
   -- a pin that a hop leaves by is used
-  pub has_users : (wire place : ℕ) (is : Wire) (hop : Hop) → slice_get planned.plan.wires wire ≡ Some is → slice_get is.hops place ≡ Some hop → hop.at < planned.plan.period → leaves_by link pin hop.at hop ≡ true
+  pub has_users : (wire place : ℕ) (is : Wire) (hop : Hop) → slice_get planned.plan.wires wire ≡ Some is
+      → slice_get is.hops place ≡ Some hop → hop.at < planned.plan.period → leaves_by link pin hop.at hop ≡ true
       → 0 < length (users planned link pin)
   has_users wire place is hop there stands below leaves =
       let standing = is_user wire place is hop there stands below leaves in

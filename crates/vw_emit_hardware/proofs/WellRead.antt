@@ -53,7 +53,8 @@ gate_is_table ins out cover = by cover.on cover.inputs cover.rows where
 own_leaves : (hop : Hop) (link : Link) → carries hop link ≡ true → leaves_by link hop.pin hop.at hop ≡ true
 own_leaves hop link carried = and_from (carries hop link) (hop.pin == hop.pin && hop.at == hop.at) carried (and_from (hop.pin == hop.pin) (hop.at == hop.at) (eq-eqb hop.pin hop.pin refl) (eq-eqb hop.at hop.at refl))
 
-all_mapped : {A B : Type 0} (P : B → Type 0) (f : A → B) (xs : List A) → ((place : ℕ) (default : A) → place < length xs → P (f (get_or xs place default))) → AllByRecursion P (map f xs)
+all_mapped : {A B : Type 0} (P : B → Type 0) (f : A → B) (xs : List A)
+    → ((place : ℕ) (default : A) → place < length xs → P (f (get_or xs place default))) → AllByRecursion P (map f xs)
 all_mapped P f [] each = tt
 all_mapped P f (x ∷ xs) each = (each 0 x (omega arith), all_mapped P f xs (λ place default below. each (suc place) default (omega (arith, below))))
 
@@ -113,7 +114,8 @@ module _ (planned : PlannedBoard) (sound : IsSound planned) (node : ℕ) (among 
       ⊎_elim in_table in_register is.same
 
   -- what a user sends is driven, with a small rank
-  user_driven : (pin : ℕ) (link : Link) → link.from ≡ node → (user : User) → StandsIn user (users planned link pin) → (user.at < planned.plan.period) × IsDriven planned node user.name × (rank planned user.name ≤ length planned.ordered.order + 1)
+  user_driven : (pin : ℕ) (link : Link) → link.from ≡ node → (user : User) → StandsIn user (users planned link pin)
+      → (user.at < planned.plan.period) × IsDriven planned node user.name × (rank planned user.name ≤ length planned.ordered.order + 1)
   user_driven pin link from user standing =
       let own = user_hop planned link pin user standing in
       let parts = and_parts (carries own.hop link) (own.hop.pin == pin && own.hop.at == user.at) own.leaves in
@@ -140,7 +142,8 @@ module _ (planned : PlannedBoard) (sound : IsSound planned) (node : ℕ) (among 
     few : suc (length is.others) ≤ planned.plan.period
     few = let whole = few_users planned sound is.link is.pin in let long = ap length is.used in omega (arith, whole, long)
 
-    one_driven : (number : ℕ) (one : User) → slice_get (is.user ∷ is.others) number ≡ Some one → (one.at < planned.plan.period) × IsDriven planned node one.name × (rank planned one.name ≤ length planned.ordered.order + 1)
+    one_driven : (number : ℕ) (one : User) → slice_get (is.user ∷ is.others) number ≡ Some one
+        → (one.at < planned.plan.period) × IsDriven planned node one.name × (rank planned one.name ≤ length planned.ordered.order + 1)
     one_driven number one at = user_driven is.pin is.link is.from one (number, ap (λ (all : List User). slice_get all number) is.used ∙ at)
 
     drives_sent : (number : ℕ) (one : User) → drives (send_item is.at is.pin number one) ≡ sent is.at is.pin number
@@ -152,7 +155,8 @@ module _ (planned : PlannedBoard) (sound : IsSound planned) (node : ℕ) (among 
         let one = stands_below (is.user ∷ is.others) number below in
         by_item (send_item is.at is.pin number one.0) (has_send planned node among is.at is.pin is.link is.linked is.from is.within is.user is.others is.used number one.0 one.1) (drives_sent number one.0)
 
-    late_driven : (later : ℕ) → later ≤ is.link.delay - 1 → IsDriven planned node (late_name is.at is.pin (length is.others) later) × (rank planned (late_name is.at is.pin (length is.others) later) ≤ length planned.ordered.order + 2 + length is.others)
+    late_driven : (later : ℕ) → later ≤ is.link.delay - 1
+        → IsDriven planned node (late_name is.at is.pin (length is.others) later) × (rank planned (late_name is.at is.pin (length is.others) later) ≤ length planned.ordered.order + 2 + length is.others)
     late_driven zero below = (sent_driven (length is.others) (omega arith), omega arith)
     late_driven (suc before) below = (by_item (delay_item is.at is.pin (length is.others) before) (has_delay planned node among is.at is.pin is.link is.linked is.from is.within is.user is.others is.used before (omega (arith, below))) refl, omega arith)
 
@@ -204,6 +208,7 @@ module _ (planned : PlannedBoard) (node place : ℕ) (item : LocalItem) (read : 
   pub read_driven : IsDriven planned node read
   read_driven = reads_well.0
 
-pub read_rises : (planned : PlannedBoard) (node place : ℕ) (ins : List Local) (out : Local) (on : Bool) (rows : List (List Mark)) (read : Local) → IsSound planned → IsItem planned node (table ins out on rows) → slice_get ins place ≡ Some read
+pub read_rises : (planned : PlannedBoard) (node place : ℕ) (ins : List Local) (out : Local) (on : Bool) (rows : List (List Mark)) (read : Local)
+    → IsSound planned → IsItem planned node (table ins out on rows) → slice_get ins place ≡ Some read
     → rank planned read < rank planned out
 read_rises planned node place ins out on rows read sound is at = (reads_well planned node place (table ins out on rows) read sound is at).1

@@ -52,7 +52,8 @@ has_range from (suc count) number late below =
     ⊎_elim (λ same. inl same) (λ apart. inr (has_range (from + 1) count number (omega (arith, late, apart)) (omega (arith, below)))) (cases_eq from number)
 
 -- the formals of a placed model are all different
-formals_differ : (items : List Item) → list_all has_its_shape items ≡ true → (k : ℕ) (placing : Placing) → slice_get (placings items) k ≡ Some placing → are_distinct (map (λ bind. bind.formal) placing.binds) ≡ true
+formals_differ : (items : List Item) → list_all has_its_shape items ≡ true → (k : ℕ) (placing : Placing)
+    → slice_get (placings items) k ≡ Some placing → are_distinct (map (λ bind. bind.formal) placing.binds) ≡ true
 formals_differ [] all k placing at = absurd (none-some placing at)
 formals_differ (Names line ins out cover ∷ items) all k placing at = formals_differ items (and_parts (has_its_shape (Names line ins out cover)) (list_all has_its_shape items) all).1 k placing at
 formals_differ (Latch line d q edge control init ∷ items) all k placing at = formals_differ items (and_parts true (list_all has_its_shape items) all).1 k placing at
@@ -69,7 +70,8 @@ module _ (planned : PlannedBoard) (sound : IsSound planned) (board : Design) (is
     pub at : item_at board (suc node ∷ []) number ≡ Some item
     pub same : plain_item item ≡ spelled_item local
 
-  pub has_item : (node number : ℕ) (local : LocalItem) → node ≤ planned.board.chips → slice_get (node_items planned node) number ≡ Some local → HasItem node number local
+  pub has_item : (node number : ℕ) (local : LocalItem) → node ≤ planned.board.chips
+      → slice_get (node_items planned node) number ≡ Some local → HasItem node number local
   has_item node number local among at =
       let own = node_model_of planned board is_board node among in
       let there : slice_get (map spelled_item (node_items planned node)) number ≡ Some (spelled_item local) = slice_get-map spelled_item (node_items planned node) number ∙ ap (option_map spelled_item) at in
@@ -89,7 +91,8 @@ module _ (planned : PlannedBoard) (sound : IsSound planned) (board : Design) (is
   -- ---- ports
 
   -- the binding of a port, where a node is placed
-  binding : (node : ℕ) (among : node ≤ planned.board.chips) (net : Local) → Has net (node_ports planned node) → (bind : Bind) × Has bind (placing_of_node planned board is_board node among).0.binds × (bind.formal ≡ spelled net) × (bind.actual ≡ net_of_port planned net)
+  binding : (node : ℕ) (among : node ≤ planned.board.chips) (net : Local) → Has net (node_ports planned node)
+      → (bind : Bind) × Has bind (placing_of_node planned board is_board node among).0.binds × (bind.formal ≡ spelled net) × (bind.actual ≡ net_of_port planned net)
   binding node among net has =
       let placing = placing_of_node planned board is_board node among in
       let at = at-Has net (node_ports planned node) has in
@@ -99,7 +102,8 @@ module _ (planned : PlannedBoard) (sound : IsSound planned) (board : Design) (is
 
   module _ (faultless : HasNoModelFault board) where
     -- the board's net of an output has the driver of the output
-    pub output_net : (node : ℕ) → node ≤ planned.board.chips → (net : Local) → StandsIn net (node_outputs planned node) → driver board [] (net_of_port planned net) ≡ driver board (suc node ∷ []) (spelled net)
+    pub output_net : (node : ℕ) → node ≤ planned.board.chips → (net : Local) → StandsIn net (node_outputs planned node)
+        → driver board [] (net_of_port planned net) ≡ driver board (suc node ∷ []) (spelled net)
     output_net node among net output =
         let placing = placing_of_node planned board is_board node among in
         let has = Has-at net (node_outputs planned node) output.0 output.1 in
@@ -114,7 +118,8 @@ module _ (planned : PlannedBoard) (sound : IsSound planned) (board : Design) (is
         ∙ ap (driver board (suc node ∷ [])) bind.2
 
     -- an input has the driver of the board's net of it
-    pub input_net : (node : ℕ) → node ≤ planned.board.chips → (net : Local) → StandsIn net (node_inputs planned node) → driver board (suc node ∷ []) (spelled net) ≡ driver board [] (net_of_port planned net)
+    pub input_net : (node : ℕ) → node ≤ planned.board.chips → (net : Local) → StandsIn net (node_inputs planned node)
+        → driver board (suc node ∷ []) (spelled net) ≡ driver board [] (net_of_port planned net)
     input_net node among net input =
         let placing = placing_of_node planned board is_board node among in
         let has = Has-at net (node_inputs planned node) input.0 input.1 in
@@ -132,7 +137,8 @@ module _ (planned : PlannedBoard) (sound : IsSound planned) (board : Design) (is
 
     -- ---- columns and pins
 
-    pub column_driver : (number : ℕ) → number < planned.ordered.flat.inputs → driver board (suc 0 ∷ []) (spelled (column number)) ≡ Some (at_port (spelled (column number)))
+    pub column_driver : (number : ℕ) → number < planned.ordered.flat.inputs
+        → driver board (suc 0 ∷ []) (spelled (column number)) ≡ Some (at_port (spelled (column number)))
     column_driver number within =
         let own = root planned board is_board in
         let inputs : own.0.inputs ≡ map (λ k. spelled (column k)) (range_with_len 0 planned.ordered.flat.inputs) = ap (λ (m : PlainModel). m.inputs) own.1.same in
@@ -143,7 +149,8 @@ module _ (planned : PlannedBoard) (sound : IsSound planned) (board : Design) (is
         ∙ root_driver board (spelled (column number)) (port_first board [] own.0 (spelled (column number)) (root_at planned board is_board) (or_left (has_name own.0.inputs (spelled (column number))) (has_name own.0.clocks (spelled (column number))) among))
 
     -- both ends of a pin have one driver
-    pub pin_driver : (at pin : ℕ) (link : Link) → slice_get planned.board.links at ≡ Some link → IsUsed planned link pin → driver board (suc link.to ∷ []) (spelled (pin_in at pin)) ≡ driver board (suc link.from ∷ []) (spelled (pin_out at pin))
+    pub pin_driver : (at pin : ℕ) (link : Link) → slice_get planned.board.links at ≡ Some link → IsUsed planned link pin
+        → driver board (suc link.to ∷ []) (spelled (pin_in at pin)) ≡ driver board (suc link.from ∷ []) (spelled (pin_out at pin))
     pin_driver at pin link linked used =
         let ends = at_place (λ (one : Link). (one.from ≤ planned.board.chips) × (one.to ≤ planned.board.chips)) planned.board.links at link planned.board.linked.separate.ends linked in
         input_net link.to ends.1 (pin_in at pin) (has_pin_in planned link.to at pin link linked refl used)
@@ -153,8 +160,10 @@ module _ (planned : PlannedBoard) (sound : IsSound planned) (board : Design) (is
 
     -- what drives a net of a node: a column, or an item of a node by its number
     pub data DrivenBy (node : ℕ) (net : Local) : Type 0 where
-      from_column : (number : ℕ) → number < planned.ordered.flat.inputs → column number ≡ net → driver board (suc node ∷ []) (spelled net) ≡ Some (at_port (spelled (column number))) → DrivenBy node net
-      from_item : (at number : ℕ) (item : LocalItem) → at ≤ planned.board.chips → slice_get (node_items planned at) number ≡ Some item → (drives item ≡ net) ⊎ ((link : ℕ) × (pin : ℕ) × (net ≡ pin_in link pin) × (drives item ≡ pin_out link pin))
+      from_column : (number : ℕ) → number < planned.ordered.flat.inputs → column number ≡ net
+          → driver board (suc node ∷ []) (spelled net) ≡ Some (at_port (spelled (column number))) → DrivenBy node net
+      from_item : (at number : ℕ) (item : LocalItem) → at ≤ planned.board.chips → slice_get (node_items planned at) number ≡ Some item
+          → (drives item ≡ net) ⊎ ((link : ℕ) × (pin : ℕ) × (net ≡ pin_in link pin) × (drives item ≡ pin_out link pin))
           → driver board (suc node ∷ []) (spelled net) ≡ Some (at_cell (suc at ∷ []) number) → DrivenBy node net
 
     pub driven_by : (node : ℕ) (net : Local) → IsDriven planned node net → DrivenBy node net

@@ -73,7 +73,8 @@ module _ (design : Design) where
 -- ---- lists
 
 -- what each number of a range gives, by what a list has there
-of_range : {A : Type 0} (f : ℕ → A) (count : ℕ) (xs : List A) → map f (range_with_len 0 count) ≡ xs → (k : ℕ) (x : A) → slice_get xs k ≡ Some x → (k < count) × (f k ≡ x)
+of_range : {A : Type 0} (f : ℕ → A) (count : ℕ) (xs : List A) → map f (range_with_len 0 count) ≡ xs → (k : ℕ) (x : A)
+    → slice_get xs k ≡ Some x → (k < count) × (f k ≡ x)
 of_range f count xs same k x at =
     let found = mapped_at f (range_with_len 0 count) xs same k x at in
     let inside = slice_get_within (range_with_len 0 count) k found.0 found.1 in
@@ -88,13 +89,15 @@ listed_range : {A B : Type 0} (f : ℕ → B) (number : ℕ) (xs : List A) → l
 listed_range f number [] = refl
 listed_range f number (x ∷ xs) = ap (λ (rest : List _). f number ∷ rest) (listed_range f (suc number) xs ∙ ap (λ (from : ℕ). map f (range_with_len from (length xs))) (sym (add-one number)))
 
-range_agree : {B : Type 0} (f g : ℕ → B) (from count : ℕ) → ((k : ℕ) → from ≤ k → k < from + count → f k ≡ g k) → map f (range_with_len from count) ≡ map g (range_with_len from count)
+range_agree : {B : Type 0} (f g : ℕ → B) (from count : ℕ) → ((k : ℕ) → from ≤ k → k < from + count → f k ≡ g k)
+    → map f (range_with_len from count) ≡ map g (range_with_len from count)
 range_agree f g from zero agree = refl
 range_agree f g from (suc count) agree =
     ap₂ (λ (first : _) (rest : List _). first ∷ rest) (agree from (omega arith) (omega arith)) (range_agree f g (from + 1) count (λ k late below. agree k (omega (arith, late)) (omega (arith, below))))
 
 -- the column of a number, among columns
-column_place : (from count k : ℕ) → k < count → from + count < 2 ^ 64 → place_of_name (map (λ n. spelled (column n)) (range_with_len from count)) (spelled (column (from + k))) ≡ Some k
+column_place : (from count k : ℕ) → k < count → from + count < 2 ^ 64
+    → place_of_name (map (λ n. spelled (column n)) (range_with_len from count)) (spelled (column (from + k))) ≡ Some k
 column_place from zero k below small = absurd (omega (arith, below))
 column_place from (suc count) zero below small =
     let none : from + 0 ≡ from = omega arith in
@@ -114,12 +117,14 @@ column_place from (suc count) (suc k) below small =
 
 -- ---- tables
 
-same_rows : (bits : List Bool) (rows : List Row) → list_any (λ row. row_matches row.marks bits) rows ≡ list_any (λ marks. row_matches marks bits) (map (λ row. row.marks) rows)
+same_rows : (bits : List Bool) (rows : List Row)
+    → list_any (λ row. row_matches row.marks bits) rows ≡ list_any (λ marks. row_matches marks bits) (map (λ row. row.marks) rows)
 same_rows bits [] = refl
 same_rows bits (row ∷ rows) = ap (λ (found : Bool). row_matches row.marks bits || found) (same_rows bits rows)
 
 -- a cover has the value of a table with its rows
-cover_is_table : (cover : Cover) (on : Bool) (marks : List (List Mark)) (bits : List Bool) → cover.on ≡ on → map (λ row. row.marks) cover.rows ≡ marks → cover_value cover bits ≡ table_value on marks bits
+cover_is_table : (cover : Cover) (on : Bool) (marks : List (List Mark)) (bits : List Bool) → cover.on ≡ on
+    → map (λ row. row.marks) cover.rows ≡ marks → cover_value cover bits ≡ table_value on marks bits
 cover_is_table cover on marks bits same_on same_marks =
     ap (λ (found : Bool). cond found cover.on (not cover.on)) (same_rows bits cover.rows)
     ∙ ap₂ (λ (o : Bool) (ms : List (List Mark)). cond (list_any (λ m. row_matches m bits) ms) o (not o)) same_on same_marks
@@ -137,8 +142,10 @@ module _ (planned : PlannedBoard) (sound : IsSound planned) (board : Design) (is
 
   -- ---- tables and registers
 
-  table_is : (time node number : ℕ) (ins : List Local) (out : Local) (on : Bool) (marks : List (List Mark)) (item : Item) → item_at board (suc node ∷ []) number ≡ Some item → plain_item item ≡ table (map spelled ins) (spelled out) on marks
-      → driver board (suc node ∷ []) (spelled out) ≡ Some (at_cell (suc node ∷ []) number) → value time node out ≡ table_value on marks (map (value time node) ins)
+  table_is : (time node number : ℕ) (ins : List Local) (out : Local) (on : Bool) (marks : List (List Mark)) (item : Item)
+      → item_at board (suc node ∷ []) number ≡ Some item → plain_item item ≡ table (map spelled ins) (spelled out) on marks
+      → driver board (suc node ∷ []) (spelled out) ≡ Some (at_cell (suc node ∷ []) number)
+      → value time node out ≡ table_value on marks (map (value time node) ins)
   table_is time node number ins out on marks (Names line reads_these drives_this cover) at same drives_it =
       gate_value board (accepted planned sound board is_board small) (loop_free planned sound board is_board small) (row_at time) (state_at time) (suc node ∷ []) (spelled out) (suc node ∷ []) number line reads_these drives_this cover drives_it at
       ∙ cover_is_table cover on marks (map (path_value board (row_at time) (state_at time) (suc node ∷ [])) reads_these) (ap on_of same) (ap marks_of same)
@@ -171,7 +178,8 @@ module _ (planned : PlannedBoard) (sound : IsSound planned) (board : Design) (is
     at : item_at board (suc node ∷ []) number ≡ Some (Latch line d q edge control init)
     reads_it : d ≡ spelled next
 
-  latch_item : (node number : ℕ) (next own : Local) (init : Init) (item : Item) → item_at board (suc node ∷ []) number ≡ Some item → plain_item item ≡ spelled_item (register next own init) → IsLatchItem node number next init
+  latch_item : (node number : ℕ) (next own : Local) (init : Init) (item : Item) → item_at board (suc node ∷ []) number ≡ Some item
+      → plain_item item ≡ spelled_item (register next own init) → IsLatchItem node number next init
   latch_item node number next own init (Names line ins out cover) at same = cc
   latch_item node number next own init (Latch line d q edge control start) at same =
       let init_is : start ≡ init = ap init_of same in
@@ -200,7 +208,8 @@ module _ (planned : PlannedBoard) (sound : IsSound planned) (board : Design) (is
       ∙ all_kept (inputs_of (model_at board []))
       ∙ ap inputs_of (root_at planned board is_board) ∙ ap (λ (m : PlainModel). m.inputs) (root planned board is_board).1.same
 
-  column_is : (time number : ℕ) (row : List Bool) → slice_get rows time ≡ Some row → number < planned.ordered.flat.inputs → value time 0 (column number) ≡ slice_index_or row number false
+  column_is : (time number : ℕ) (row : List Bool) → slice_get rows time ≡ Some row → number < planned.ordered.flat.inputs
+      → value time 0 (column number) ≡ slice_index_or row number false
   column_is time number row at within =
       let few = planned.ordered.flat.few_inputs in
       let none : 0 + number ≡ number = omega arith in
@@ -215,7 +224,8 @@ module _ (planned : PlannedBoard) (sound : IsSound planned) (board : Design) (is
 
   pub is_run : IsRun planned unknown rows value
   is_run = record { columns = column_is; tables = tables; starts = starts; steps = steps; pins = pins } where
-    tables : (time node : ℕ) (ins : List Local) (out : Local) (on : Bool) (marks : List (List Mark)) → time < length rows → IsItem planned node (local_table ins out on marks) → value time node out ≡ table_value on marks (map (value time node) ins)
+    tables : (time node : ℕ) (ins : List Local) (out : Local) (on : Bool) (marks : List (List Mark)) → time < length rows
+        → IsItem planned node (local_table ins out on marks) → value time node out ≡ table_value on marks (map (value time node) ins)
     tables time node ins out on marks inside item =
         let own = has_item planned sound board is_board node item.place (local_table ins out on marks) item.among item.stands in
         table_is time node item.place ins out on marks own.item own.at own.same (item_driver planned sound board is_board node item.place (local_table ins out on marks) item.among item.stands)
@@ -225,13 +235,15 @@ module _ (planned : PlannedBoard) (sound : IsSound planned) (board : Design) (is
         let there = has_item planned sound board is_board node item.place (register next own init) item.among item.stands in
         latch_item node item.place next own init there.item there.at there.same
 
-    starts : (node : ℕ) (next own : Local) (init : Init) → 0 < length rows → IsItem planned node (register next own init) → value 0 node own ≡ start_value unknown init
+    starts : (node : ℕ) (next own : Local) (init : Init) → 0 < length rows → IsItem planned node (register next own init)
+        → value 0 node own ≡ start_value unknown init
     starts node next own init some item =
         let is = latch_of node next own init item in
         let spot = latch_place board (faultless planned sound board is_board small) (suc node ∷ []) item.place (Latch is.line is.d is.q is.edge is.control init) is.at refl in
         first_value board (suc node ∷ []) item.place is.line is.d is.q is.edge is.control init spot unknown (row_at 0) (suc node ∷ []) (spelled own) (item_driver planned sound board is_board node item.place (register next own init) item.among item.stands) is.at
 
-    steps : (time node : ℕ) (next own : Local) (init : Init) → suc time < length rows → IsItem planned node (register next own init) → value (suc time) node own ≡ value time node next
+    steps : (time node : ℕ) (next own : Local) (init : Init) → suc time < length rows → IsItem planned node (register next own init)
+        → value (suc time) node own ≡ value time node next
     steps time node next own init inside item =
         let is = latch_of node next own init item in
         let spot = latch_place board (faultless planned sound board is_board small) (suc node ∷ []) item.place (Latch is.line is.d is.q is.edge is.control init) is.at refl in
@@ -240,7 +252,8 @@ module _ (planned : PlannedBoard) (sound : IsSound planned) (board : Design) (is
         (item_driver planned sound board is_board node item.place (register next own init) item.among item.stands) is.at
         ∙ ap (path_value board (row_at time) (state_at time) (suc node ∷ [])) is.reads_it
 
-    pins : (time number pin : ℕ) (link : Link) → time < length rows → slice_get planned.board.links number ≡ Some link → IsUsed planned link pin → value time link.to (pin_in number pin) ≡ value time link.from (pin_out number pin)
+    pins : (time number pin : ℕ) (link : Link) → time < length rows → slice_get planned.board.links number ≡ Some link
+        → IsUsed planned link pin → value time link.to (pin_in number pin) ≡ value time link.from (pin_out number pin)
     pins time number pin link inside linked used =
         same_value board (row_at time) (state_at time) (suc link.to ∷ []) (spelled (pin_in number pin)) (suc link.from ∷ []) (spelled (pin_out number pin))
         (pin_driver planned sound board is_board (faultless planned sound board is_board small) number pin link linked used)
@@ -287,9 +300,11 @@ module _ (planned : PlannedBoard) (sound : IsSound planned) (board : Design) (is
 
 -- ---- at the last microclock of each clock
 
-pub acts_as : (planned : PlannedBoard) (sound : IsSound planned) (board : Design) (is_board : IsBoardOf planned board) (small : IsSmall board) (unknown : Bool) (rows : List (List Bool)) → ActsAs planned board unknown rows
+pub acts_as : (planned : PlannedBoard) (sound : IsSound planned) (board : Design) (is_board : IsBoardOf planned board) (small : IsSmall board) (unknown : Bool) (rows : List (List Bool))
+    → ActsAs planned board unknown rows
 acts_as planned sound board is_board small unknown rows = record { at_last = at_last } where
-  at_last : (clock : ℕ) (outputs state : List Bool) → slice_get (own_history planned unknown rows).outputs clock ≡ Some outputs → slice_get (own_history planned unknown rows).states clock ≡ Some state
+  at_last : (clock : ℕ) (outputs state : List Bool) → slice_get (own_history planned unknown rows).outputs clock ≡ Some outputs
+      → slice_get (own_history planned unknown rows).states clock ≡ Some state
       → slice_get (path_outputs_from board [] (path_start unknown board) (held_rows planned rows)) (last_microclock planned clock) ≡ Some (outputs ++ state)
   at_last clock outputs state outputs_at state_at_clock =
       let held = held_rows planned rows in
@@ -303,11 +318,13 @@ acts_as planned sound board is_board small unknown rows = record { at_last = at_
       ∙ ap (λ (all : List Bool). Some all) (shown planned sound board is_board small unknown held (last_microclock planned clock) ∙ ap₂ (λ (a b : List Bool). a ++ b) first.1 second.1)
 
 -- there is a run
-pub has_run : (planned : PlannedBoard) (board : Design) → IsSound planned → IsBoardOf planned board → IsSmall board → (unknown : Bool) (rows : List (List Bool)) → (bits : Values) × IsRun planned unknown rows bits
+pub has_run : (planned : PlannedBoard) (board : Design) → IsSound planned → IsBoardOf planned board → IsSmall board
+    → (unknown : Bool) (rows : List (List Bool)) → (bits : Values) × IsRun planned unknown rows bits
 has_run planned board sound is_board small unknown rows = (value planned sound board is_board small unknown rows, is_run planned sound board is_board small unknown rows)
 
 -- and as many columns as the planned netlist has inputs
-pub has_columns : (planned : PlannedBoard) (board : Design) → IsSound planned → IsBoardOf planned board → IsSmall board → length (columns board) ≡ planned.ordered.flat.inputs
+pub has_columns : (planned : PlannedBoard) (board : Design) → IsSound planned → IsBoardOf planned board → IsSmall board
+    → length (columns board) ≡ planned.ordered.flat.inputs
 has_columns planned board sound is_board small =
     ap (λ (names : List Word). length names) (columns_are planned sound board is_board small false [])
     ∙ length-map-range_with_len (λ n. spelled (column n)) 0 planned.ordered.flat.inputs

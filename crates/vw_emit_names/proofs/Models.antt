@@ -23,7 +23,8 @@ use Rattle.vw_emit_names.specs.Spelled.{node_name, spelled}
 -- ---- lists with the same values
 
 -- what stands in a list whose values are another list
-pub mapped_at : {A B : Type 0} (f : A → B) (xs : List A) (ys : List B) → map f xs ≡ ys → (k : ℕ) (y : B) → slice_get ys k ≡ Some y → (x : A) × (slice_get xs k ≡ Some x) × (f x ≡ y)
+pub mapped_at : {A B : Type 0} (f : A → B) (xs : List A) (ys : List B) → map f xs ≡ ys → (k : ℕ) (y : B) → slice_get ys k ≡ Some y
+    → (x : A) × (slice_get xs k ≡ Some x) × (f x ≡ y)
 mapped_at f xs ys same k y at = by (slice_get xs k) refl (sym (slice_get-map f xs k) ∙ ap (λ (list : List _). slice_get list k) same ∙ at) where
   by : (found : Option _) → slice_get xs k ≡ found → option_map f found ≡ Some y → (x : _) × (slice_get xs k ≡ Some x) × (f x ≡ y)
   by None is none = absurd (none-some y none)
@@ -37,7 +38,8 @@ node_at planned node among =
     slice_get-get_or (all_nodes planned) node 0 (omega (arith, long, among)) ∙ ap (λ (n : ℕ). Some n) (get_or-range_with_len 0 (planned.board.chips + 1) node 0 (omega (arith, among)) ∙ is)
 
 -- and no other place has one
-pub node_below : (planned : PlannedBoard) (number node : ℕ) → slice_get (all_nodes planned) number ≡ Some node → (number ≤ planned.board.chips) × (node ≡ number)
+pub node_below : (planned : PlannedBoard) (number node : ℕ) → slice_get (all_nodes planned) number ≡ Some node
+    → (number ≤ planned.board.chips) × (node ≡ number)
 node_below planned number node at =
     let inside = slice_get_within (all_nodes planned) number node at in
     let long = length-range_with_len 0 (planned.board.chips + 1) in
@@ -83,7 +85,8 @@ map_by f g same [] = refl
 map_by f g same (x ∷ xs) = ap (λ (y : _). y ∷ map f xs) (same x) ∙ ap (λ (ys : List _). g x ∷ ys) (map_by f g same xs)
 
 -- the names that items drive which are these of a node
-pub driven_names : (items : List Item) (locals : List LocalItem) → map plain_item items ≡ map spelled_item locals → map driven_name items ≡ map spelled (map drives locals)
+pub driven_names : (items : List Item) (locals : List LocalItem) → map plain_item items ≡ map spelled_item locals
+    → map driven_name items ≡ map spelled (map drives locals)
 driven_names items locals same =
     map_by driven_name (λ (item : Item). plain_driven (plain_item item)) (λ item. sym (driven_plain item)) items
     ∙ sym (map-map plain_driven plain_item items) ∙ ap (map plain_driven) same ∙ map-map plain_driven spelled_item locals
@@ -120,7 +123,8 @@ abbrev plain_placing : Placing → PlainItem
 plain_placing placing = place placing.model (map plain_bind placing.binds)
 
 -- the placed models of items that only place
-placed_plain : (items : List Item) (nodes : List ℕ) (planned : PlannedBoard) → map plain_item items ≡ map (placed_node planned) nodes → map plain_placing (placings items) ≡ map (placed_node planned) nodes
+placed_plain : (items : List Item) (nodes : List ℕ) (planned : PlannedBoard) → map plain_item items ≡ map (placed_node planned) nodes
+    → map plain_placing (placings items) ≡ map (placed_node planned) nodes
 placed_plain [] nodes planned same = same
 placed_plain (Names line ins out cover ∷ items) [] planned same = cc
 placed_plain (Names line ins out cover ∷ items) (node ∷ nodes) planned same = cc
@@ -135,7 +139,8 @@ placed_plain (Sub line model binds ∷ items) (node ∷ nodes) planned same =
       tail (one ∷ more) = more
 
 -- they only place
-pub only_places : (items : List Item) (nodes : List ℕ) (planned : PlannedBoard) → map plain_item items ≡ map (placed_node planned) nodes → list_all (λ item. not (is_cell item)) items ≡ true
+pub only_places : (items : List Item) (nodes : List ℕ) (planned : PlannedBoard) → map plain_item items ≡ map (placed_node planned) nodes
+    → list_all (λ item. not (is_cell item)) items ≡ true
 only_places [] nodes planned same = refl
 only_places (item ∷ items) [] planned same = cc
 only_places (item ∷ items) (node ∷ nodes) planned same =
@@ -186,7 +191,8 @@ module _ (planned : PlannedBoard) (board : Design) (is_board : IsBoardOf planned
     binds_of (latch d q edge control init) = []
     binds_of (place model binds) = binds
 
-  pub placing_of_node : (node : ℕ) → node ≤ planned.board.chips → (placing : Placing) × (slice_get (placings root.0.items) node ≡ Some placing) × IsPlacing planned node placing
+  pub placing_of_node : (node : ℕ) → node ≤ planned.board.chips
+      → (placing : Placing) × (slice_get (placings root.0.items) node ≡ Some placing) × IsPlacing planned node placing
   placing_of_node node among =
       let at : slice_get (map (placed_node planned) (all_nodes planned)) node ≡ Some (placed_node planned node) = slice_get-map (placed_node planned) (all_nodes planned) node ∙ ap (option_map (placed_node planned)) (node_at planned node among) in
       let found = mapped_at plain_placing (placings root.0.items) (map (placed_node planned) (all_nodes planned)) root_placings node (placed_node planned node) at in

@@ -132,7 +132,8 @@ module _ (planned : PlannedBoard) (sound : IsSound planned) (board : Design) (is
   -- an item of the board places a node; one of a node is a cell
   pub data ItemOf (path : Path) (number : ℕ) (item : Item) : Type 0 where
     a_placing : (node : ℕ) → plain_item item ≡ placed_node planned node → ItemOf path number item
-    a_cell : (node : ℕ) → node ≤ planned.board.chips → path ≡ suc node ∷ [] → (local : LocalItem) → slice_get (node_items planned node) number ≡ Some local → plain_item item ≡ spelled_item local → ItemOf path number item
+    a_cell : (node : ℕ) → node ≤ planned.board.chips → path ≡ suc node ∷ [] → (local : LocalItem)
+        → slice_get (node_items planned node) number ≡ Some local → plain_item item ≡ spelled_item local → ItemOf path number item
 
   pub item_of : (path : Path) (number : ℕ) (item : Item) → item_at board path number ≡ Some item → ItemOf path number item
   item_of path number item at = by (model_at board path) refl at where
@@ -167,7 +168,8 @@ module _ (planned : PlannedBoard) (sound : IsSound planned) (board : Design) (is
     name_is : spelled net ≡ name
     well : ReadsWell planned sound node among local net
 
-  reads_net : (path : Path) (number : ℕ) (item : Item) (node : ℕ) (among : node ≤ planned.board.chips) (local : LocalItem) → slice_get (node_items planned node) number ≡ Some local → plain_item item ≡ spelled_item local
+  reads_net : (path : Path) (number : ℕ) (item : Item) (node : ℕ) (among : node ≤ planned.board.chips) (local : LocalItem)
+      → slice_get (node_items planned node) number ≡ Some local → plain_item item ≡ spelled_item local
       → (name : Word) → Has name (data_of item) → ReadsNet path local name node among
   reads_net path number item node among local at same name has =
       let names : data_of item ≡ map spelled (locals_read local) = data_plain item ∙ ap plain_data same ∙ data_spelled local in
@@ -184,14 +186,16 @@ module _ (planned : PlannedBoard) (sound : IsSound planned) (board : Design) (is
     driven_some node net (from_column number within same drives_it) = ap (λ (found : Option Source). is_none found) drives_it
     driven_some node net (from_item at number item among there same drives_it) = ap (λ (found : Option Source). is_none found) drives_it
 
-    data_driven : (path : Path) (number : ℕ) (item : Item) → ItemOf path number item → (name : Word) → Has name (data_of item) → is_none (driver board path name) ≡ false
+    data_driven : (path : Path) (number : ℕ) (item : Item) → ItemOf path number item → (name : Word) → Has name (data_of item)
+        → is_none (driver board path name) ≡ false
     data_driven path number item (a_placing node same) name has = absurd (subst (λ (list : List Word). Has name list) (data_plain item ∙ ap plain_data same) has)
     data_driven path number item (a_cell node among is local at same) name has =
         let read = reads_net path number item node among local at same name has in
         ap₂ (λ (p : Path) (w : Word). is_none (driver board p w)) is (sym read.name_is) ∙ driven_some node read.net (driven_by planned sound board is_board none node read.net read.well.0)
 
     -- the board's outputs
-    pub result_net : (output : ℕ) → output < length planned.ordered.flat.outputs → driver board [] (spelled (result output)) ≡ driver board (suc 0 ∷ []) (spelled (result output))
+    pub result_net : (output : ℕ) → output < length planned.ordered.flat.outputs
+        → driver board [] (spelled (result output)) ≡ driver board (suc 0 ∷ []) (spelled (result output))
     result_net output within = output_net planned sound board is_board none 0 (omega arith) (result output) (has_result_port planned 0 output refl within)
 
     pub latch_net : (cell d : ℕ) (init : Init) → slice_get planned.ordered.flat.cells cell ≡ Some (LatchCell d init)
@@ -208,7 +212,8 @@ module _ (planned : PlannedBoard) (sound : IsSound planned) (board : Design) (is
         let shown = map shown_net (range_with_len 0 (latch_count flat.cells)) in
         let outputs : model_outputs (model_at board []) ≡ results ++ shown = ap model_outputs (root_at planned board is_board) ∙ ap (λ (m : PlainModel). m.outputs) own.1.same in
         ⊎_elim of_result of_latch (Has-append name results shown (subst (λ (list : List Word). Has name list) outputs has)) where
-          of_result : Has name (map (λ output. spelled (result output)) (range_with_len 0 (length planned.ordered.flat.outputs))) → is_none (driver board [] name) ≡ false
+          of_result : Has name (map (λ output. spelled (result output)) (range_with_len 0 (length planned.ordered.flat.outputs)))
+              → is_none (driver board [] name) ≡ false
           of_result there =
               let from = from-map (λ output. spelled (result output)) name (range_with_len 0 (length planned.ordered.flat.outputs)) there in
               let below = in_range 0 (length planned.ordered.flat.outputs) from.0 from.1 in
@@ -286,7 +291,8 @@ module _ (planned : PlannedBoard) (sound : IsSound planned) (board : Design) (is
     place_rank (suc node ∷ path) number = item_rank (slice_get (node_items planned node) number)
 
     -- what drives a net has its rank
-    driver_rank : (node : ℕ) (net : Local) → DrivenBy planned sound board is_board none node net → (path : Path) (number : ℕ) → driver board (suc node ∷ []) (spelled net) ≡ Some (at_cell path number) → place_rank path number ≡ rank planned net
+    driver_rank : (node : ℕ) (net : Local) → DrivenBy planned sound board is_board none node net → (path : Path) (number : ℕ)
+        → driver board (suc node ∷ []) (spelled net) ≡ Some (at_cell path number) → place_rank path number ≡ rank planned net
     driver_rank node net (from_column column_number within same drives_it) path number is = absurd (other_source (spelled (column column_number)) path number (same_Some (at_port (spelled (column column_number))) (at_cell path number) (sym drives_it ∙ is))) where
       other_source : (name : Word) (p : Path) (k : ℕ) → at_port name ≡ at_cell p k → ⊥
       other_source name p k same_source = cc
@@ -301,13 +307,17 @@ module _ (planned : PlannedBoard) (sound : IsSound planned) (board : Design) (is
           number_same p q j k e = cc
 
     -- a gate has a greater rank than those that it locals_read
-    table_rises : (node : ℕ) (among : node ≤ planned.board.chips) (local : LocalItem) (line : ℕ) (ins : List Word) (out : Word) (cover : Cover) → plain_item (Names line ins out cover) ≡ spelled_item local → (net : Local) → ReadsWell planned sound node among local net → rank planned net < rank planned (drives local)
+    table_rises : (node : ℕ) (among : node ≤ planned.board.chips) (local : LocalItem) (line : ℕ) (ins : List Word) (out : Word) (cover : Cover)
+        → plain_item (Names line ins out cover) ≡ spelled_item local → (net : Local) → ReadsWell planned sound node among local net
+        → rank planned net < rank planned (drives local)
     table_rises node among (local_table reads_these drives_this on rows) line ins out cover same net well = well.1
     table_rises node among (register next own init) line ins out cover same net well = cc
 
-    falls : (gate other : Gate) → gate_reads board gate other ≡ true → is_gate_item (item_at board other.path other.number) ≡ true → place_rank other.path other.number < place_rank gate.path gate.number
+    falls : (gate other : Gate) → gate_reads board gate other ≡ true → is_gate_item (item_at board other.path other.number) ≡ true
+        → place_rank other.path other.number < place_rank gate.path gate.number
     falls gate other reads_it is = by (item_at board gate.path gate.number) refl (reader board gate other reads_it) where
-      of : (line : ℕ) (ins : List Word) (out : Word) (cover : Cover) → item_at board gate.path gate.number ≡ Some (Names line ins out cover) → ItemOf gate.path gate.number (Names line ins out cover) → place_rank other.path other.number < place_rank gate.path gate.number
+      of : (line : ℕ) (ins : List Word) (out : Word) (cover : Cover) → item_at board gate.path gate.number ≡ Some (Names line ins out cover)
+          → ItemOf gate.path gate.number (Names line ins out cover) → place_rank other.path other.number < place_rank gate.path gate.number
       of line ins out cover at (a_placing node same) = cc
       of line ins out cover at (a_cell node among path_is local there same) =
           let read = read_by board gate other line ins out cover at reads_it in
@@ -318,7 +328,8 @@ module _ (planned : PlannedBoard) (sound : IsSound planned) (board : Design) (is
           let upper : place_rank gate.path gate.number ≡ rank planned (drives local) = ap (λ (p : Path). place_rank p gate.number) path_is ∙ ap item_rank there in
           omega (arith, lower, rises, upper)
 
-      by : (item : Option Item) → item_at board gate.path gate.number ≡ item → is_gate_item item ≡ true → place_rank other.path other.number < place_rank gate.path gate.number
+      by : (item : Option Item) → item_at board gate.path gate.number ≡ item → is_gate_item item ≡ true
+          → place_rank other.path other.number < place_rank gate.path gate.number
       by None at gate_is = absurd (true≢false (sym gate_is))
       by (Some (Latch line d q edge control init)) at gate_is = absurd (true≢false (sym gate_is))
       by (Some (Sub line model binds)) at gate_is = absurd (true≢false (sym gate_is))

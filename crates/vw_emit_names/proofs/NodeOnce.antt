@@ -124,7 +124,8 @@ module _ (planned : PlannedBoard) (sound : IsSound planned) (node : ℕ) where
   catches wire number hop at = catch_table planned node wire number hop at ∷ register (caught wire number) (held wire number) StartsAtZero ∷ []
 
   -- the numbers of what a hop's items drive
-  hop_keys : (wire number : ℕ) (hop : Hop) (u : LocalItem) → StandsIn u (hop_items planned wire number hop) → (first_number (drives u) ≡ wire) × (second_number (drives u) ≡ number)
+  hop_keys : (wire number : ℕ) (hop : Hop) (u : LocalItem) → StandsIn u (hop_items planned wire number hop)
+      → (first_number (drives u) ≡ wire) × (second_number (drives u) ≡ number)
   hop_keys wire number hop u stands =
       let by = from_listed u (catch_items planned wire number hop) 0 planned.board.links stands in
       let own = from_when (carries hop by.item) u (catches wire number hop (0 + by.place)) by.stands in
@@ -157,7 +158,8 @@ module _ (planned : PlannedBoard) (sound : IsSound planned) (node : ℕ) where
   -- ---- pins by which the node is left
 
   -- what an item of a pin drives
-  pin_net_is : (at pin lag : ℕ) (user : User) (others : List User) (u : LocalItem) → OfPin planned node at pin lag user others u → (part (drives u) ≡ 6) × (first_number (drives u) ≡ at) × (second_number (drives u) ≡ pin)
+  pin_net_is : (at pin lag : ℕ) (user : User) (others : List User) (u : LocalItem) → OfPin planned node at pin lag user others u
+      → (part (drives u) ≡ 6) × (first_number (drives u) ≡ at) × (second_number (drives u) ≡ pin)
   pin_net_is at pin lag user others u (sends number one is same) =
       let net = ap drives (sym same) ∙ drives_sent at pin number one in (ap part net, ap first_number net, ap second_number net)
   pin_net_is at pin lag user others u (waits later below same) = let net = ap drives (sym same) in (ap part net, ap first_number net, ap second_number net)
@@ -166,7 +168,8 @@ module _ (planned : PlannedBoard) (sound : IsSound planned) (node : ℕ) where
   pin_part : (u : LocalItem) → StandsIn u (pins_from planned node) → part (drives u) ≡ 6
   pin_part u stands = let is = from_pins planned node u stands in (pin_net_is is.at is.pin (is.link.delay - 1) is.user is.others u is.item_is).0
 
-  pin_keys : (at pin lag : ℕ) (all : List User) (u : LocalItem) → StandsIn u (pin_items at pin lag all) → (first_number (drives u) ≡ at) × (second_number (drives u) ≡ pin)
+  pin_keys : (at pin lag : ℕ) (all : List User) (u : LocalItem) → StandsIn u (pin_items at pin lag all)
+      → (first_number (drives u) ≡ at) × (second_number (drives u) ≡ pin)
   pin_keys at pin lag [] u stands = absurd (none-some u stands.1)
   pin_keys at pin lag (user ∷ others) u stands = let is = pin_net_is at pin lag user others u (of_pin planned node at pin lag user others u stands) in (is.1, is.2)
 
@@ -230,11 +233,13 @@ module _ (planned : PlannedBoard) (sound : IsSound planned) (node : ℕ) where
   -- ---- all items
 
   -- a part, and further ones behind it
-  behind : (number : ℕ) (front back : List LocalItem) → AreOnce (map drives front) → AreOnce (map drives back) → ((u : LocalItem) → StandsIn u front → part (drives u) ≡ number)
+  behind : (number : ℕ) (front back : List LocalItem) → AreOnce (map drives front) → AreOnce (map drives back)
+      → ((u : LocalItem) → StandsIn u front → part (drives u) ≡ number)
       → ((u : LocalItem) → StandsIn u back → number < part (drives u)) → AreOnce (map drives (front ++ back))
   behind number front back one other here there = once_both drives front back one other (λ u v in_front in_back same. let e = ap part same in let less = there v in_back in omega (arith, e, less, here u in_front))
 
-  from_part : (number : ℕ) (front back : List LocalItem) → ((u : LocalItem) → StandsIn u front → part (drives u) ≡ number) → ((u : LocalItem) → StandsIn u back → number < part (drives u))
+  from_part : (number : ℕ) (front back : List LocalItem) → ((u : LocalItem) → StandsIn u front → part (drives u) ≡ number)
+      → ((u : LocalItem) → StandsIn u back → number < part (drives u))
       → (low : ℕ) → low < number → (u : LocalItem) → StandsIn u (front ++ back) → low < part (drives u)
   from_part number front back here there low less u stands =
       ⊎_elim (λ first. let is = here u first in omega (arith, is, less)) (λ rest. let is = there u rest in omega (arith, is, less)) (from_append u front back stands)
@@ -301,7 +306,8 @@ module _ (planned : PlannedBoard) (sound : IsSound planned) (node : ℕ) where
       ap part (sym (only (column given.number) net given.stands))
 
   -- the numbers of a pin's port
-  input_keys : (at : ℕ) (link : Link) (net : Local) → StandsIn net (cond (link.to == node) (pin_ports (pin_in at) planned link) []) → (part net ≡ 1) × (first_number net ≡ at)
+  input_keys : (at : ℕ) (link : Link) (net : Local) → StandsIn net (cond (link.to == node) (pin_ports (pin_in at) planned link) [])
+      → (part net ≡ 1) × (first_number net ≡ at)
   input_keys at link net stands =
       let own = from_when (link.to == node) net (pin_ports (pin_in at) planned link) stands in
       let given = from_gather net (λ pin. used_port (pin_in at pin) (users planned link pin)) link.width own.1 in

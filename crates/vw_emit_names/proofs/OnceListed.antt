@@ -13,7 +13,8 @@ module _ {X Y : Type 0} (f : X → Y) where
   from_values z xs has = let from = from-map f z xs has in (from.0, at-Has from.0 xs from.1, from.2)
 
   -- of two lists that have no common value
-  pub once_both : (xs ys : List X) → AreOnce (map f xs) → AreOnce (map f ys) → ((u v : X) → StandsIn u xs → StandsIn v ys → f u ≡ f v → ⊥) → AreOnce (map f (xs ++ ys))
+  pub once_both : (xs ys : List X) → AreOnce (map f xs) → AreOnce (map f ys) → ((u v : X) → StandsIn u xs → StandsIn v ys → f u ≡ f v → ⊥)
+      → AreOnce (map f (xs ++ ys))
   once_both xs ys one other apart =
       subst AreOnce (sym (map-append f xs ys)) (once_append (map f xs) (map f ys) one other (λ z here there.
       let first = from_values z xs here in
@@ -26,7 +27,8 @@ module _ {X Y : Type 0} (f : X → Y) where
   once_when false xs once = tt
 
   -- of numbers
-  pub once_gather : (key : Y → ℕ) (each : ℕ → List X) (count : ℕ) → ((k : ℕ) → k < count → AreOnce (map f (each k))) → ((k : ℕ) (u : X) → StandsIn u (each k) → key (f u) ≡ k) → AreOnce (map f (gather each count))
+  pub once_gather : (key : Y → ℕ) (each : ℕ → List X) (count : ℕ) → ((k : ℕ) → k < count → AreOnce (map f (each k)))
+      → ((k : ℕ) (u : X) → StandsIn u (each k) → key (f u) ≡ k) → AreOnce (map f (gather each count))
   once_gather key each zero once keyed = tt
   once_gather key each (suc count) once keyed =
       once_both (gather each count) (each count) (once_gather key each count (λ k below. once k (omega (arith, below))) keyed) (once count (omega arith)) (λ u v here there same.
@@ -39,7 +41,8 @@ module _ {X Y : Type 0} (f : X → Y) where
 
   module _ {A : Type 0} where
     -- of elements
-    pub once_listed : (key : Y → ℕ) (each : ℕ → A → List X) (number : ℕ) (xs : List A) → ((place : ℕ) (x : A) → slice_get xs place ≡ Some x → AreOnce (map f (each (number + place) x)))
+    pub once_listed : (key : Y → ℕ) (each : ℕ → A → List X) (number : ℕ) (xs : List A)
+        → ((place : ℕ) (x : A) → slice_get xs place ≡ Some x → AreOnce (map f (each (number + place) x)))
         → ((k : ℕ) (x : A) (u : X) → StandsIn u (each k x) → key (f u) ≡ k) → AreOnce (map f (listed each number xs))
     once_listed key each number [] once keyed = tt
     once_listed key each number (x ∷ xs) once keyed =
@@ -54,8 +57,10 @@ module _ {X Y : Type 0} (f : X → Y) where
         omega (arith, first, second, equal))
 
     -- of elements of which one alone has any
-    pub once_alone : (each : ℕ → A → List X) (number : ℕ) (xs : List A) → ((place : ℕ) (x : A) → slice_get xs place ≡ Some x → AreOnce (map f (each (number + place) x)))
-        → ((i j : ℕ) (x y : A) (u v : X) → slice_get xs i ≡ Some x → slice_get xs j ≡ Some y → StandsIn u (each (number + i) x) → StandsIn v (each (number + j) y) → i ≡ j) → AreOnce (map f (listed each number xs))
+    pub once_alone : (each : ℕ → A → List X) (number : ℕ) (xs : List A)
+        → ((place : ℕ) (x : A) → slice_get xs place ≡ Some x → AreOnce (map f (each (number + place) x)))
+        → ((i j : ℕ) (x y : A) (u v : X) → slice_get xs i ≡ Some x → slice_get xs j ≡ Some y → StandsIn u (each (number + i) x) → StandsIn v (each (number + j) y) → i ≡ j)
+        → AreOnce (map f (listed each number xs))
     once_alone each number [] once alone = tt
     once_alone each number (x ∷ xs) once alone =
         let zero_on : number + 0 ≡ number = omega arith in

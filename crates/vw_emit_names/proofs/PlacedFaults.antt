@@ -87,7 +87,8 @@ module _ (planned : PlannedBoard) (sound : IsSound planned) (board : Design) (is
         a_node k below.0 (record { stands = at; same = same })
 
   -- a search that finds nothing at what the board places finds nothing
-  none_placed : {A : Type 0} (search : ℕ → Word → List Bind → Option A) → ((line node : ℕ) (binds : List Bind) → node ≤ planned.board.chips → map plain_bind binds ≡ map (port_joined planned) (node_ports planned node)
+  none_placed : {A : Type 0} (search : ℕ → Word → List Bind → Option A)
+      → ((line node : ℕ) (binds : List Bind) → node ≤ planned.board.chips → map plain_bind binds ≡ map (port_joined planned) (node_ports planned node)
       → search line (node_name node) binds ≡ None) → first_placing board search ≡ None
   unfolding reached
   none_placed search none =
@@ -112,23 +113,27 @@ module _ (planned : PlannedBoard) (sound : IsSound planned) (board : Design) (is
 
   -- ---- the faults
 
-  named : (node : ℕ) → node ≤ planned.board.chips → (model : Model) × IsNodeModel planned board is_board node model × (model_named board.models (node_name node) ≡ Some model)
+  named : (node : ℕ) → node ≤ planned.board.chips
+      → (model : Model) × IsNodeModel planned board is_board node model × (model_named board.models (node_name node) ≡ Some model)
   named node among = let own = node_model_of planned board is_board node among in (own.0, own.1, node_named planned board is_board node own.0 own.1)
 
   no_unknown_model : unknown_model board ≡ None
   no_unknown_model = none_placed (λ line name binds. if is_none (model_named board.models name) then Some line else None) (λ line node binds among are. ap (λ (found : Option Model). if is_none found then Some line else None) (named node among).2)
 
   -- what a node's port is bound to is one of its formals
-  formal_is : (node : ℕ) (binds : List Bind) → map plain_bind binds ≡ map (port_joined planned) (node_ports planned node) → (bind : Bind) → Has bind binds → (net : Local) × Has net (node_ports planned node) × (spelled net ≡ bind.formal)
+  formal_is : (node : ℕ) (binds : List Bind) → map plain_bind binds ≡ map (port_joined planned) (node_ports planned node) → (bind : Bind)
+      → Has bind binds → (net : Local) × Has net (node_ports planned node) × (spelled net ≡ bind.formal)
   formal_is node binds are bind has =
       let here = subst (λ (list : List Joined). Has (plain_bind bind) list) are (Has-map plain_bind bind binds has) in
       let from = from-map (port_joined planned) (plain_bind bind) (node_ports planned node) here in
       (from.0, from.1, ap (λ (joined : Joined). joined.formal) from.2)
 
-  inputs_are : (node : ℕ) (model : Model) → IsNodeModel planned board is_board node model → model.inputs ++ model.clocks ≡ map spelled (node_inputs planned node)
+  inputs_are : (node : ℕ) (model : Model) → IsNodeModel planned board is_board node model
+      → model.inputs ++ model.clocks ≡ map spelled (node_inputs planned node)
   inputs_are node model is = ap₂ (λ (a b : List Word). a ++ b) (ap (λ (m : PlainModel). m.inputs) is.same) (ap (λ (m : PlainModel). m.clocks) is.same) ∙ append-nil (map spelled (node_inputs planned node))
 
-  port_is : (node : ℕ) (model : Model) → IsNodeModel planned board is_board node model → (name : Word) → is_port model name ≡ has_name (map spelled (node_inputs planned node)) name
+  port_is : (node : ℕ) (model : Model) → IsNodeModel planned board is_board node model → (name : Word)
+      → is_port model name ≡ has_name (map spelled (node_inputs planned node)) name
   port_is node model is name =
       ap₂ (λ (a b : List Word). has_name a name || has_name b name) (ap (λ (m : PlainModel). m.inputs) is.same) (ap (λ (m : PlainModel). m.clocks) is.same) ∙ or-false (has_name (map spelled (node_inputs planned node)) name)
 
@@ -138,7 +143,8 @@ module _ (planned : PlannedBoard) (sound : IsSound planned) (board : Design) (is
       let nothing : find (λ (bind : Bind). not (is_formal_of own.0 bind.formal)) binds ≡ None = find_nothing (λ (bind : Bind). not (is_formal_of own.0 bind.formal)) binds (λ bind has. ap not (known node own.0 own.1 bind (formal_is node binds are bind has))) in
       ap (λ (found : Option Model). option_map (λ formal. record { line = line; name = formal }) (option_and_then (λ model. unknown_formal_in model binds) found)) own.2
       ∙ ap (λ (found : Option Bind). option_map (λ formal. record { line = line; name = formal }) (option_map (λ (bind : Bind). bind.formal) found)) nothing) where
-        known : (node : ℕ) (model : Model) → IsNodeModel planned board is_board node model → (bind : Bind) → (net : Local) × Has net (node_ports planned node) × (spelled net ≡ bind.formal) → is_formal_of model bind.formal ≡ true
+        known : (node : ℕ) (model : Model) → IsNodeModel planned board is_board node model → (bind : Bind)
+            → (net : Local) × Has net (node_ports planned node) × (spelled net ≡ bind.formal) → is_formal_of model bind.formal ≡ true
         known node model is bind net =
             let outputs : model.outputs ≡ map spelled (node_outputs planned node) = ap (λ (m : PlainModel). m.outputs) is.same in
             ap (is_formal_of model) (sym net.2)
@@ -173,8 +179,10 @@ module _ (planned : PlannedBoard) (sound : IsSound planned) (board : Design) (is
   rank name = if bytes_eq name (codes "board") then 1 else 0
 
   -- what is placed is reached, and below
-  below_root : (name : Word) → is_reached board name ≡ true → (model : Model) → model_named board.models name ≡ Some model → (root planned board is_board).0 ≡ model
-      → (line : ℕ) (placed : Word) (binds : List Bind) → Has (Sub line placed binds) model.items → is_below (is_reached board) rank (rank name) (Sub line placed binds) ≡ true
+  below_root : (name : Word) → is_reached board name ≡ true → (model : Model) → model_named board.models name ≡ Some model
+      → (root planned board is_board).0 ≡ model
+      → (line : ℕ) (placed : Word) (binds : List Bind) → Has (Sub line placed binds) model.items
+      → is_below (is_reached board) rank (rank name) (Sub line placed binds) ≡ true
   below_root name is model named_is same line placed binds has =
       let own = is_placed line placed binds (subst (λ (m : Model). Has (Sub line placed binds) m.items) (sym same) has) in
       let places : model_places (model_named board.models name) placed ≡ true = ap (λ (m : Option Model). model_places m placed) named_is ∙ any-Has (names_model placed) (Sub line placed binds) model.items has (name_same placed) in
@@ -189,7 +197,8 @@ module _ (planned : PlannedBoard) (sound : IsSound planned) (board : Design) (is
   no_place limit (Latch line d q edge control init ∷ items) all = no_place limit items all
   no_place limit (Sub line placed binds ∷ items) all = absurd (true≢false (sym all))
 
-  falls : (name : Word) → is_reached board name ≡ true → (found : Option Model) → model_named board.models name ≡ found → list_all (is_below (is_reached board) rank (rank name)) (items_of found) ≡ true
+  falls : (name : Word) → is_reached board name ≡ true → (found : Option Model) → model_named board.models name ≡ found
+      → list_all (is_below (is_reached board) rank (rank name)) (items_of found) ≡ true
   falls name is None named_is = refl
   falls name is (Some model) named_is = by (is_model model (from-find (λ (m : Model). bytes_eq m.name name) model board.models named_is).0) where
     by : IsModel model → list_all (is_below (is_reached board) rank (rank name)) model.items ≡ true

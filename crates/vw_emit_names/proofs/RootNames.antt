@@ -65,13 +65,15 @@ module _ (planned : PlannedBoard) (sound : IsSound planned) where
     of_pin : (is : IsPinPort planned pin_in one) × (is.link.to ≡ node) → ⊥
     of_pin is = (past (from_outputs planned node other output)).1 (sym (ap letter is.0.same))
 
-  pub input_no_output : (node : ℕ) (net : Local) → StandsIn net (node_inputs planned node) → has_name (map spelled (node_outputs planned node)) (spelled net) ≡ false
+  pub input_no_output : (node : ℕ) (net : Local) → StandsIn net (node_inputs planned node)
+      → has_name (map spelled (node_outputs planned node)) (spelled net) ≡ false
   input_no_output node net input = none_named (map spelled (node_outputs planned node)) (spelled net) (λ has.
       let from = from-map spelled (spelled net) (node_outputs planned node) has in
       let output = at-Has from.0 (node_outputs planned node) from.1 in
       ports_apart node net from.0 input output (spelled_once net from.0 (small_input planned sound node net input) (small_output node from.0 (from_outputs planned node from.0 output)) (sym from.2)))
 
-  pub output_no_input : (node : ℕ) (name : Word) → Has name (map spelled (node_outputs planned node)) → has_name (map spelled (node_inputs planned node)) name ≡ false
+  pub output_no_input : (node : ℕ) (name : Word) → Has name (map spelled (node_outputs planned node))
+      → has_name (map spelled (node_inputs planned node)) name ≡ false
   output_no_input node name has =
       let from = from-map spelled name (node_outputs planned node) has in
       let output = at-Has from.0 (node_outputs planned node) from.1 in
@@ -86,7 +88,8 @@ module _ (planned : PlannedBoard) (sound : IsSound planned) where
   abbrev shows : List Word → Local → Option Word
   shows outputs port = if has_name outputs (spelled port) then Some (net_of_port planned port) else None
 
-  bound_ports : (outputs : List Word) (binds : List Bind) (ports : List Local) → map plain_bind binds ≡ map (port_joined planned) ports → filter_map (bound_actual outputs) binds ≡ filter_map (shows outputs) ports
+  bound_ports : (outputs : List Word) (binds : List Bind) (ports : List Local) → map plain_bind binds ≡ map (port_joined planned) ports
+      → filter_map (bound_actual outputs) binds ≡ filter_map (shows outputs) ports
   bound_ports outputs [] [] same = refl
   bound_ports outputs [] (port ∷ ports) same = cc
   bound_ports outputs (bind ∷ binds) [] same = cc
@@ -95,20 +98,23 @@ module _ (planned : PlannedBoard) (sound : IsSound planned) where
       ap₂ (λ (joined : Joined) (rest : List Word). cons_option (if has_name outputs joined.formal then Some joined.actual else None) rest) first
       (bound_ports outputs binds ports (tail_same (plain_bind bind) (port_joined planned port) (map plain_bind binds) (map (port_joined planned) ports) same))
 
-  none_shown : (outputs : List Word) (ports more : List Local) → ((net : Local) → Has net ports → has_name outputs (spelled net) ≡ false) → filter_map (shows outputs) (ports ++ more) ≡ filter_map (shows outputs) more
+  none_shown : (outputs : List Word) (ports more : List Local) → ((net : Local) → Has net ports → has_name outputs (spelled net) ≡ false)
+      → filter_map (shows outputs) (ports ++ more) ≡ filter_map (shows outputs) more
   none_shown outputs [] more none = refl
   none_shown outputs (port ∷ ports) more none =
       ap (λ (test : Bool). cons_option (if test then Some (net_of_port planned port) else None) (filter_map (shows outputs) (ports ++ more))) (none port (inl refl))
       ∙ none_shown outputs ports more (λ net has. none net (inr has))
 
-  all_shown : (outputs : List Word) (ports : List Local) → ((net : Local) → Has net ports → has_name outputs (spelled net) ≡ true) → filter_map (shows outputs) ports ≡ map (net_of_port planned) ports
+  all_shown : (outputs : List Word) (ports : List Local) → ((net : Local) → Has net ports → has_name outputs (spelled net) ≡ true)
+      → filter_map (shows outputs) ports ≡ map (net_of_port planned) ports
   all_shown outputs [] all = refl
   all_shown outputs (port ∷ ports) all =
       ap (λ (test : Bool). cons_option (if test then Some (net_of_port planned port) else None) (filter_map (shows outputs) ports)) (all port (inl refl))
       ∙ ap (λ (rest : List Word). net_of_port planned port ∷ rest) (all_shown outputs ports (λ net has. all net (inr has)))
 
   module _ (board : Design) (is_board : IsBoardOf planned board) where
-    placed_claims : (node : ℕ) → node ≤ planned.board.chips → (item : Item) → plain_item item ≡ placed_node planned node → claimed_by board item ≡ map (net_of_port planned) (node_outputs planned node)
+    placed_claims : (node : ℕ) → node ≤ planned.board.chips → (item : Item) → plain_item item ≡ placed_node planned node
+        → claimed_by board item ≡ map (net_of_port planned) (node_outputs planned node)
     placed_claims node among (Names line ins out cover) same = cc
     placed_claims node among (Latch line d q edge control init) same = cc
     placed_claims node among (Sub line model binds) same =
@@ -130,7 +136,8 @@ module _ (planned : PlannedBoard) (sound : IsSound planned) where
           binds_of (latch d q edge control init) = []
           binds_of (place name joined) = joined
 
-    all_claims : (items : List Item) (nodes : List ℕ) → map plain_item items ≡ map (placed_node planned) nodes → ((node : ℕ) → Has node nodes → node ≤ planned.board.chips)
+    all_claims : (items : List Item) (nodes : List ℕ) → map plain_item items ≡ map (placed_node planned) nodes
+        → ((node : ℕ) → Has node nodes → node ≤ planned.board.chips)
         → flat_map (claimed_by board) items ≡ map (net_of_port planned) (flat_map (node_outputs planned) nodes)
     all_claims [] [] same few = refl
     all_claims [] (node ∷ nodes) same few = cc

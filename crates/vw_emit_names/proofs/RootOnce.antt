@@ -37,7 +37,8 @@ latch_cell (Gate ins cover ∷ cells) number = suc (latch_cell cells number)
 latch_cell (Latch d init ∷ cells) zero = 0
 latch_cell (Latch d init ∷ cells) (suc number) = suc (latch_cell cells number)
 
-latch_cell_is : (cells : List Cell) (cell d : ℕ) (init : Init) → slice_get cells cell ≡ Some (Latch d init) → latch_cell cells (latch_count (take cell cells)) ≡ cell
+latch_cell_is : (cells : List Cell) (cell d : ℕ) (init : Init) → slice_get cells cell ≡ Some (Latch d init)
+    → latch_cell cells (latch_count (take cell cells)) ≡ cell
 latch_cell_is [] cell d init at = absurd (none-some (Latch d init) at)
 latch_cell_is (Gate ins cover ∷ cells) zero d init at = cc
 latch_cell_is (Latch e other ∷ cells) zero d init at = refl
@@ -71,7 +72,8 @@ module _ (planned : PlannedBoard) (sound : IsSound planned) where
     abbrev own_latches : List Local
     own_latches = listed (λ cell is. if slice_index planned.plan.chip_of cell == node then latch_port cell is else []) 0 planned.ordered.flat.cells
 
-    keys : (at : ℕ) (link : Link) (net : Local) → StandsIn net (cond (link.from == node) (pin_ports (pin_out at) planned link) []) → (letter net ≡ 111) × (first_number net ≡ at)
+    keys : (at : ℕ) (link : Link) (net : Local) → StandsIn net (cond (link.from == node) (pin_ports (pin_out at) planned link) [])
+        → (letter net ≡ 111) × (first_number net ≡ at)
     keys at link net stands =
         let own = from_when (link.from == node) net (pin_ports (pin_out at) planned link) stands in
         let given = from_gather net (λ pin. used_port (pin_out at pin) (users planned link pin)) link.width own.1 in

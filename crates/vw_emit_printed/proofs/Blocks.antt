@@ -21,7 +21,8 @@ IsApart before [] = Unit {0}
 IsApart before (hop ∷ hops) = is_of_pin hop before ≡ false
 
 -- behind hops of other pins it is as behind none
-anew : (before : Option NumberedHop) (number : ℕ) (hops : List NumberedHop) → IsApart before hops → outlets_behind before number hops ≡ outlets_behind None 0 hops
+anew : (before : Option NumberedHop) (number : ℕ) (hops : List NumberedHop) → IsApart before hops
+    → outlets_behind before number hops ≡ outlets_behind None 0 hops
 unfolding IsApart
 anew before number [] apart = refl
 anew before number (hop ∷ hops) apart =
@@ -47,7 +48,8 @@ cut before number (x ∷ xs) ys first apart =
       behind (y ∷ others) all = all.0.back
 
 -- hops by a number, where those of different numbers leave by different pins
-pub in_blocks : (key : NumberedHop → ℕ) → ((x y : NumberedHop) → key x < key y → Apart x y) → (each : ℕ → List NumberedHop) → ((number : ℕ) → AllByRecursion (λ x. key x ≡ number) (each number))
+pub in_blocks : (key : NumberedHop → ℕ) → ((x y : NumberedHop) → key x < key y → Apart x y) → (each : ℕ → List NumberedHop)
+    → ((number : ℕ) → AllByRecursion (λ x. key x ≡ number) (each number))
     → (count : ℕ) → outlets_behind None 0 (gather each count) ≡ gather (λ number. outlets_behind None 0 (each number)) count
 unfolding IsApart
 in_blocks key apart each has zero = refl
@@ -112,7 +114,9 @@ module _ (link pin : ℕ) where
   one_pin x y one other =
       and_from (x.link == y.link) (x.pin == y.pin) (eq-eqb x.link y.link (one.over ∙ sym other.over)) (eq-eqb x.pin y.pin (one.by ∙ sym other.by))
 
-  numbered : (before : Option NumberedHop) (number : ℕ) → ((hop : NumberedHop) → IsOfPin hop → cond (is_of_pin hop before) number 0 ≡ number) → (hops : List NumberedHop) → AllByRecursion IsOfPin hops
+  numbered : (before : Option NumberedHop) (number : ℕ)
+      → ((hop : NumberedHop) → IsOfPin hop → cond (is_of_pin hop before) number 0 ≡ number) → (hops : List NumberedHop)
+      → AllByRecursion IsOfPin hops
       → outlets_behind before number hops ≡ in_turn number hops
   numbered before number own [] all = refl
   numbered before number own (hop ∷ hops) all =

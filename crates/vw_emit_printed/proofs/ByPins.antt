@@ -25,14 +25,17 @@ module _ (planned : PlannedBoard) where
 module _ (planned : PlannedBoard) (sound : IsSound planned) where
   own_pin : (link pin : ℕ) → AllByRecursion (IsOfPin link pin) (block planned link pin)
   own_pin link pin = both (block planned link pin) (links_of_block planned link pin) (pins_of_block planned link pin) where
-    both : (hops : List NumberedHop) → AllByRecursion (λ hop. hop.link ≡ link) hops → AllByRecursion (λ hop. hop.pin ≡ pin) hops → AllByRecursion (IsOfPin link pin) hops
+    both : (hops : List NumberedHop) → AllByRecursion (λ hop. hop.link ≡ link) hops → AllByRecursion (λ hop. hop.pin ≡ pin) hops
+        → AllByRecursion (IsOfPin link pin) hops
     both [] links pins = tt
     both (hop ∷ hops) links pins = (record { over = links.0; by = pins.0 }, both hops links.1 pins.1)
 
   -- the hops of each pin are of it
-  are_of : (number pin : ℕ) (link : Link) → slice_get planned.board.links number ≡ Some link → AllByRecursion (IsOf planned number pin link) (block planned number pin)
+  are_of : (number pin : ℕ) (link : Link) → slice_get planned.board.links number ≡ Some link
+      → AllByRecursion (IsOf planned number pin link) (block planned number pin)
   are_of number pin link there = both (block planned number pin) (own_pin number pin) (of_block planned (Known planned) (all_known planned sound) number pin) where
-    both : (hops : List NumberedHop) → AllByRecursion (IsOfPin number pin) hops → AllByRecursion (Known planned) hops → AllByRecursion (IsOf planned number pin link) hops
+    both : (hops : List NumberedHop) → AllByRecursion (IsOfPin number pin) hops → AllByRecursion (Known planned) hops
+        → AllByRecursion (IsOf planned number pin link) hops
     both [] own known = tt
     both (hop ∷ hops) own known = (record { own = own.0; goes = known.0 number link there own.0.over }, both hops own.1 known.1)
 

@@ -86,7 +86,8 @@ module _ {A : Type 0} where
 
 module _ {X Y : Type 0} where
   -- gathered lists that are as long, number by number
-  pub length_gathered : (one : ℕ → List X) (other : ℕ → List Y) (count : ℕ) → ((number : ℕ) → length (one number) ≡ length (other number)) → length (gather one count) ≡ length (gather other count)
+  pub length_gathered : (one : ℕ → List X) (other : ℕ → List Y) (count : ℕ) → ((number : ℕ) → length (one number) ≡ length (other number))
+      → length (gather one count) ≡ length (gather other count)
   length_gathered one other zero same = refl
   length_gathered one other (suc count) same =
       omega (arith, length-append (gather one count) (one count), length-append (gather other count) (other count), length_gathered one other count same, same count)
@@ -140,7 +141,8 @@ later_zeros planned k (hop ∷ hops) =
     let rest = flat_map zeros_at (in_turn (suc (suc k)) hops) in
     ap (λ (test : Bool). 0 ∷ (cond test (zeros (suc (hop.arrival - hop.at))) [] ++ rest)) other ∙ ap (λ (behind : List ℕ). 0 ∷ behind) (later_zeros planned (suc k) hops)
 
-pin_zeros : (planned : PlannedBoard) (number pin : ℕ) (link : Link) (hops : List NumberedHop) → slice_get planned.board.links number ≡ Some link → AllByRecursion (IsOf planned number pin link) hops
+pin_zeros : (planned : PlannedBoard) (number pin : ℕ) (link : Link) (hops : List NumberedHop)
+    → slice_get planned.board.links number ≡ Some link → AllByRecursion (IsOf planned number pin link) hops
     → flat_map zeros_at (in_turn 0 hops) ≡ zeros_of (link.delay - 1) (map (user_of planned) hops)
 unfolding zeros_of zeros_at
 pin_zeros planned number pin link [] there all = refl
@@ -150,7 +152,8 @@ pin_zeros planned number pin link (hop ∷ hops) there all =
 outlet_zeros : (outlet : Outlet) → length (zeros_at outlet) ≡ 1 + cond (outlet.number == 0) (outlet.hop.arrival - outlet.hop.at + 1) 0
 unfolding zeros_at
 outlet_zeros outlet = by (outlet.number == 0) where
-  by : (first : Bool) → suc (length (cond first (zeros (suc (outlet.hop.arrival - outlet.hop.at))) [])) ≡ 1 + cond first (outlet.hop.arrival - outlet.hop.at + 1) 0
+  by : (first : Bool)
+      → suc (length (cond first (zeros (suc (outlet.hop.arrival - outlet.hop.at))) [])) ≡ 1 + cond first (outlet.hop.arrival - outlet.hop.at + 1) 0
   by true = omega (arith, length_zeros (suc (outlet.hop.arrival - outlet.hop.at)))
   by false = omega arith
 
@@ -158,7 +161,8 @@ module _ (planned : PlannedBoard) (from count : ℕ) where
   -- ---- what is at one node alone
 
   -- cells
-  pub cell_total : {X : Type 0} (of_cell : ℕ → ℕ → Cell → List X) (most : Cell → ℕ) → ((node cell : ℕ) (is : Cell) → length (of_cell node cell is) ≤ most is) → (cells : List Cell)
+  pub cell_total : {X : Type 0} (of_cell : ℕ → ℕ → Cell → List X) (most : Cell → ℕ)
+      → ((node cell : ℕ) (is : Cell) → length (of_cell node cell is) ≤ most is) → (cells : List Cell)
       → total (λ node. length (listed (λ cell is. cond (slice_index planned.plan.chip_of cell == node) (of_cell node cell is) []) 0 cells)) from count ≤ sum_by most cells
   cell_total {X} of_cell most few cells =
       total_listed (λ node cell is. cond (slice_index planned.plan.chip_of cell == node) (of_cell node cell is) []) most from count 0 cells (λ place is at cell.
@@ -168,7 +172,8 @@ module _ (planned : PlannedBoard) (from count : ℕ) where
       omega (arith, same, whole))
 
   -- what is at one node, and there within a bound
-  pub node_total : {X : Type 0} (own : ℕ) (test : ℕ → Bool) → ((node : ℕ) → test node ≡ true → node ≡ own) → (list : ℕ → List X) (most : ℕ) → ((node : ℕ) → length (list node) ≤ most)
+  pub node_total : {X : Type 0} (own : ℕ) (test : ℕ → Bool) → ((node : ℕ) → test node ≡ true → node ≡ own) → (list : ℕ → List X) (most : ℕ)
+      → ((node : ℕ) → length (list node) ≤ most)
       → total (λ node. length (cond (test node) (list node) [])) from count ≤ most
   node_total {X} own test only list most few =
       let same = sum_agree (λ (node : ℕ). length (cond (test node) (list node) [])) (λ (node : ℕ). cond (test node) (length (list node)) 0) (range_with_len from count) (λ node. length_when (test node) (list node)) in
@@ -205,7 +210,8 @@ module _ (planned : PlannedBoard) (from count : ℕ) where
   -- ---- all items
 
   module _ (sound : IsSound planned) where
-    hop_length : (wire number place : ℕ) (is : Wire) (hop : Hop) → slice_get planned.plan.wires place ≡ Some is → (at : ℕ) → slice_get is.hops at ≡ Some hop → length (hop_items planned wire number hop) ≤ 2
+    hop_length : (wire number place : ℕ) (is : Wire) (hop : Hop) → slice_get planned.plan.wires place ≡ Some is → (at : ℕ)
+        → slice_get is.hops at ≡ Some hop → length (hop_items planned wire number hop) ≤ 2
     hop_length wire number place is hop there at stands =
         let own = (hop_facts planned sound place at is hop there stands).over in
         let same = ap length (hop_items_are planned sound wire number hop own) in
@@ -219,7 +225,8 @@ module _ (planned : PlannedBoard) (from count : ℕ) where
           twice [] = refl
           twice (wire ∷ wires) = omega (arith, sum_by-cons (λ (one : Wire). 2 * length one.hops) wire wires, sum_by-cons (λ (one : Wire). length one.hops) wire wires, twice wires)
 
-          of_wire : (place : ℕ) (is : Wire) → slice_get planned.plan.wires place ≡ Some is → (wire : ℕ) → total (λ node. length (wire_items planned node wire is)) from count ≤ 2 * length is.hops
+          of_wire : (place : ℕ) (is : Wire) → slice_get planned.plan.wires place ≡ Some is → (wire : ℕ)
+              → total (λ node. length (wire_items planned node wire is)) from count ≤ 2 * length is.hops
           of_wire place is there wire =
               let whole = total_listed (λ node number hop. cond (hop.to == node) (hop_items planned wire number hop) []) (λ hop. 2) from count 0 is.hops (λ at hop stands number.
               node_total hop.to (λ node. hop.to == node) (λ node own. sym (eqb-true hop.to node own)) (λ node. hop_items planned wire number hop) 2 (λ node. hop_length wire number place is hop there at stands)) in

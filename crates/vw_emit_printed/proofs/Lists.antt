@@ -20,7 +20,8 @@ module _ {X : Type 0} where
   gather_when false each count = gather_none (λ number. []) count (λ number below. refl)
 
   -- where further numbers give nothing
-  pub gather_upto : (each : ℕ → List X) (count more : ℕ) → count ≤ more → ((number : ℕ) → count ≤ number → each number ≡ []) → gather each more ≡ gather each count
+  pub gather_upto : (each : ℕ → List X) (count more : ℕ) → count ≤ more → ((number : ℕ) → count ≤ number → each number ≡ [])
+      → gather each more ≡ gather each count
   gather_upto each count more upto none =
       let all : more ≡ count + (more - count) = omega (arith, upto) in
       ap (gather each) all ∙ gather_add each count (more - count)
@@ -52,7 +53,8 @@ module _ {A X : Type 0} where
       ap₂ (λ (first rest : List X). first ++ rest) (same 0 x refl number) (listed_within one other (suc number) xs (λ place y is. same (suc place) y is))
 
   -- nothing
-  pub nothing_listed : (each : ℕ → A → List X) (number : ℕ) (xs : List A) → ((place : ℕ) (x : A) → slice_get xs place ≡ Some x → (k : ℕ) → each k x ≡ []) → listed each number xs ≡ []
+  pub nothing_listed : (each : ℕ → A → List X) (number : ℕ) (xs : List A)
+      → ((place : ℕ) (x : A) → slice_get xs place ≡ Some x → (k : ℕ) → each k x ≡ []) → listed each number xs ≡ []
   nothing_listed each number [] none = refl
   nothing_listed each number (x ∷ xs) none =
       ap₂ (λ (first rest : List X). first ++ rest) (none 0 x refl number) (nothing_listed each (suc number) xs (λ place y is. none (suc place) y is))

@@ -71,7 +71,8 @@ module _ (planned : PlannedBoard) where
   abbrev pub block : ℕ → ℕ → List NumberedHop
   block link pin = gather (with_keys link_of pin_of time_of (numbered_hops planned) link pin) planned.plan.period
 
-  sent_same : (wire place : ℕ) (is : Wire) (hop : Hop) → local_sent planned (numbered_hop planned.board.links is.net wire place hop) ≡ sent_name planned wire is place hop
+  sent_same : (wire place : ℕ) (is : Wire) (hop : Hop)
+      → local_sent planned (numbered_hop planned.board.links is.net wire place hop) ≡ sent_name planned wire is place hop
   sent_same wire zero is hop = refl
   sent_same wire (suc before) is hop =
       let other = ne_eqb (suc before) 0 (λ same. omega (arith, same)) in
@@ -165,7 +166,8 @@ module _ (planned : PlannedBoard) where
 
   pub all_known : IsSound planned → AllByRecursion Known (numbered_hops planned)
   all_known sound = wires_all Known planned.board.links 0 planned.plan.wires known where
-    known : (w k n place : ℕ) (wire : Wire) (hop : Hop) → slice_get planned.plan.wires n ≡ Some wire → slice_get wire.hops place ≡ Some hop → Known (numbered_hop planned.board.links wire.net w k hop)
+    known : (w k n place : ℕ) (wire : Wire) (hop : Hop) → slice_get planned.plan.wires n ≡ Some wire → slice_get wire.hops place ≡ Some hop
+        → Known (numbered_hop planned.board.links wire.net w k hop)
     known w k n place wire hop in_plan is = λ number link there same.
         let own = (hop_facts planned sound n place wire hop in_plan is).over in
         let numbers : own.number ≡ number = sym (hop_place planned.board hop own) ∙ same in

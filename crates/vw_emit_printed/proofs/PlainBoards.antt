@@ -66,7 +66,8 @@ plain_one line model is =
     (and_from (are_plain_ports model.outputs) (are_plain_ports model.clocks && items) is.outputs
     (and_from (are_plain_ports model.clocks) items is.clocks (plain_items (line + length (head_lines emitting (with_items model []))) model.items is.items))))
 
-plain_models : (line : ℕ) (models : List PlainModel) → ((model : PlainModel) → Has model models → IsPrintableModel model) → list_all is_plain_model (models_from line models) ≡ true
+plain_models : (line : ℕ) (models : List PlainModel) → ((model : PlainModel) → Has model models → IsPrintableModel model)
+    → list_all is_plain_model (models_from line models) ≡ true
 plain_models line [] each = refl
 plain_models line (model ∷ models) each =
     let next = line + length (model_lines emitting (model_from line model)) in

@@ -61,7 +61,8 @@ module _ (ins : List Local) (out : Local) (inputs : ℕ) (wide : length ins ≡ 
   few : nat_le (length (map spelled ins)) 128 ≡ true
   few = le-leb (length (map spelled ins)) 128 (omega (arith, long, narrow))
 
-  even_rows : (rows : List Row) → ((row : Row) → Has row rows → length row.marks ≡ inputs) → list_all (λ row. length row == length (map spelled ins)) (cover_marks rows) ≡ true
+  even_rows : (rows : List Row) → ((row : Row) → Has row rows → length row.marks ≡ inputs)
+      → list_all (λ row. length row == length (map spelled ins)) (cover_marks rows) ≡ true
   even_rows [] even = refl
   even_rows (row ∷ rows) even =
       and_from (length row.marks == length (map spelled ins)) (list_all (λ marks. length marks == length (map spelled ins)) (cover_marks rows))
@@ -71,7 +72,8 @@ module _ (ins : List Local) (out : Local) (inputs : ℕ) (wide : length ins ≡ 
   copies zero = refl
   copies (suc count) = ap suc (copies count)
 
-  shaped : (on : Bool) (rows : List (List Mark)) → list_all (λ row. length row == length (map spelled ins)) rows ≡ true → (on || not (is_empty rows)) ≡ true → is_printable (spelled_item (table ins out on rows)) ≡ true
+  shaped : (on : Bool) (rows : List (List Mark)) → list_all (λ row. length row == length (map spelled ins)) rows ≡ true
+      → (on || not (is_empty rows)) ≡ true → is_printable (spelled_item (table ins out on rows)) ≡ true
   shaped on rows even some =
       plain_table ins out on rows
       (and_from (nat_le (length (map spelled ins)) 128) (list_all (λ row. length row == length (map spelled ins)) rows && (on || not (is_empty rows))) few
@@ -83,7 +85,8 @@ module _ (ins : List Local) (out : Local) (inputs : ℕ) (wide : length ins ≡ 
       (and_from (length (replicate inputs Any) == length (map spelled ins)) true (eq-eqb (length (replicate inputs Any)) (length (map spelled ins)) (copies inputs ∙ sym long)) refl) refl
   off_shaped (row ∷ rows) even = shaped false (cover_marks (row ∷ rows)) (even_rows (row ∷ rows) even) (not_empty row.marks (cover_marks rows))
 
-  pub gate_shaped : (on : Bool) (rows : List Row) → ((row : Row) → Has row rows → length row.marks ≡ inputs) → is_printable (spelled_item (cond on (table ins out true (cover_marks rows)) (off_table ins out inputs rows))) ≡ true
+  pub gate_shaped : (on : Bool) (rows : List Row) → ((row : Row) → Has row rows → length row.marks ≡ inputs)
+      → is_printable (spelled_item (cond on (table ins out true (cover_marks rows)) (off_table ins out inputs rows))) ≡ true
   gate_shaped true rows even = shaped true (cover_marks rows) (even_rows rows even) refl
   gate_shaped false rows even = off_shaped rows even
 

@@ -49,7 +49,8 @@ none_later k (hop ∷ hops) =
     let rest = flat_map first_zero (in_turn (suc (suc k)) hops) in
     ap (λ (test : Bool). cond test (0 ∷ []) [] ++ rest) other ∙ none_later (suc k) hops
 
-pin_used : (planned : PlannedBoard) (number pin : ℕ) (link : Link) (hops : List NumberedHop) → slice_get planned.board.links number ≡ Some link → AllByRecursion (IsOf planned number pin link) hops
+pin_used : (planned : PlannedBoard) (number pin : ℕ) (link : Link) (hops : List NumberedHop)
+    → slice_get planned.board.links number ≡ Some link → AllByRecursion (IsOf planned number pin link) hops
     → flat_map first_zero (in_turn 0 hops) ≡ used_zeros (map (user_of planned) hops)
 unfolding used_zeros first_zero
 pin_used planned number pin link [] there all = refl
@@ -100,7 +101,8 @@ module _ (planned : PlannedBoard) (from count : ℕ) where
         omega (arith, long, few, length-flat_map first_zero (outlets planned), length-flat_map link_used planned.board.links)
 
     -- the ports of pins at one of their ends
-    pins_total : (end : Link → ℕ) (port : ℕ → ℕ → Local) → total (λ node. length (listed (λ at link. cond (end link == node) (pin_ports (port at) planned link) []) 0 planned.board.links)) from count ≤ pin_cells (outlets planned)
+    pins_total : (end : Link → ℕ) (port : ℕ → ℕ → Local)
+        → total (λ node. length (listed (λ at link. cond (end link == node) (pin_ports (port at) planned link) []) 0 planned.board.links)) from count ≤ pin_cells (outlets planned)
     unfolding link_used
     pins_total end port =
         let whole = total_listed (λ node at link. cond (end link == node) (pin_ports (port at) planned link) []) (λ link. length (link_used link)) from count 0 planned.board.links (λ place link there at.

@@ -38,7 +38,8 @@ gathered_lines each line count is =
 
 -- ---- the sequencer
 
-stage_text : (before : ℕ) → items_text (items.ring_stage before ∷ []) ≡ lines.blif_latch (names.stage_name before) (names.stage_name (before + 1)) (codes "0") ∷ []
+stage_text : (before : ℕ)
+    → items_text (items.ring_stage before ∷ []) ≡ lines.blif_latch (names.stage_name before) (names.stage_name (before + 1)) (codes "0") ∷ []
 stage_text before =
     let next : suc before ≡ before + 1 = omega arith in
     ap (λ (list : List (List ℕ)). list ++ []) (register_text (moment before) (moment (suc before)) StartsAtZero)
@@ -61,7 +62,8 @@ rows_of_cover on value (row ∷ rows) same = ap₂ (λ (first : List ℕ) (rest 
 cover_text : (ins : List Local) (out : Local) (cover : Cover)
     → item_text (cover_table ins out cover) ≡ lines.blif_names (map spelled ins ++ spelled out ∷ []) ∷ lines.cover_lines cover
 cover_text ins out cover = by cover.on cover.rows where
-  off : (rows : List Row) → item_text (off_table ins out cover.inputs rows) ≡ lines.blif_names (map spelled ins ++ spelled out ∷ []) ∷ lines.off_lines cover.inputs rows
+  off : (rows : List Row)
+      → item_text (off_table ins out cover.inputs rows) ≡ lines.blif_names (map spelled ins ++ spelled out ∷ []) ∷ lines.off_lines cover.inputs rows
   off [] = table_text ins out true (replicate cover.inputs Any ∷ [])
   off (row ∷ rows) =
       table_text ins out false (cover_marks (row ∷ rows))
@@ -74,7 +76,8 @@ cover_text ins out cover = by cover.on cover.rows where
       ∙ ap (λ (rest : List (List ℕ)). lines.blif_names (map spelled ins ++ spelled out ∷ []) ∷ rest) (rows_of_cover true (codes "1") rows (λ marks. refl))
   by false rows = off rows
 
-pub gate_text : (planned : PlannedBoard) (node cell : ℕ) (is : Cell) → items_text (items.gate_items planned node cell is) ≡ nodes.gate_items planned node cell is
+pub gate_text : (planned : PlannedBoard) (node cell : ℕ) (is : Cell)
+    → items_text (items.gate_items planned node cell is) ≡ nodes.gate_items planned node cell is
 gate_text planned node cell (Gate ins cover) =
     append-nil (item_text (cover_table (map (name_at planned node) ins) (gate cell) cover))
     ∙ cover_text (map (name_at planned node) ins) (gate cell) cover
@@ -83,7 +86,8 @@ gate_text planned node cell (Latch d init) = refl
 
 -- ---- latches
 
-pub latch_text : (planned : PlannedBoard) (node cell : ℕ) (is : Cell) → items_text (items.latch_items planned node cell is) ≡ nodes.latch_items planned node cell is
+pub latch_text : (planned : PlannedBoard) (node cell : ℕ) (is : Cell)
+    → items_text (items.latch_items planned node cell is) ≡ nodes.latch_items planned node cell is
 latch_text planned node cell (Gate ins cover) = refl
 latch_text planned node cell (Latch d init) =
     ap₂ (λ (one other : List (List ℕ)). one ++ (other ++ []))
@@ -116,7 +120,8 @@ results_text planned number (net ∷ nets) =
 
 pub outputs_text : (planned : PlannedBoard) (node : ℕ) → items_text (items.results planned node) ≡ nodes.output_lines_at planned node
 outputs_text planned node = by (node == 0) where
-  by : (host : Bool) → items_text (cond host (listed (λ output net. table (name_at planned 0 net ∷ []) (result output) true pass ∷ []) 0 planned.ordered.flat.outputs) [])
+  by : (host : Bool)
+      → items_text (cond host (listed (λ output net. table (name_at planned 0 net ∷ []) (result output) true pass ∷ []) 0 planned.ordered.flat.outputs) [])
       ≡ cond host (nodes.output_lines planned 0 planned.ordered.flat.outputs) []
   by true = results_text planned 0 planned.ordered.flat.outputs
   by false = refl

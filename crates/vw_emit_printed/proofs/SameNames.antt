@@ -74,7 +74,8 @@ same_pair : (net node : ℕ) (wire : Wire) → brings net node wire ≡ is_numbe
 same_pair net node wire = ap₂ (λ (one other : Bool). one && other) (eqb_comm wire.net net) (eqb_comm wire.to node)
 
 -- the register of the first of some wires that brings a net, where they stand among all wires from a number on
-found_name : (net node from : ℕ) (all wires : List Wire) → ((place : ℕ) (wire : Wire) → slice_get wires place ≡ Some wire → slice_get all (from + place) ≡ Some wire)
+found_name : (net node from : ℕ) (all wires : List Wire)
+    → ((place : ℕ) (wire : Wire) → slice_get wires place ≡ Some wire → slice_get all (from + place) ≡ Some wire)
     → spelled (unwrap_or (first_at (brought_by net node) from wires) (held 0 0)) ≡ nodes.last_register (first_pair from (wire_pairs wires) net node) all
 found_name net node from all [] at = held_is 0 0
 found_name net node from all (wire ∷ wires) at = by (brings net node wire) (is_number_pair net node (wire.net, wire.to)) (same_pair net node wire)

@@ -62,12 +62,14 @@ module _ (planned : PlannedBoard) where
 
   module _ (sound : IsSound planned) where
     -- its items stand for its one link
-    pub hop_items_are : (wire number : ℕ) (hop : Hop) (own : HopLink planned.board hop) → items.hop_items planned wire number hop ≡ caught_items wire number hop own.number
+    pub hop_items_are : (wire number : ℕ) (hop : Hop) (own : HopLink planned.board hop)
+        → items.hop_items planned wire number hop ≡ caught_items wire number hop own.number
     hop_items_are wire number hop own =
         let none : 0 + own.number ≡ own.number = omega arith in
         listed_one (items.catch_items planned wire number hop) 0 planned.board.links own.number own.link own.there others
         ∙ ap₂ (λ (test : Bool) (at : ℕ). cond test (caught_items wire number hop at) []) own.carried none where
-          others : (other : ℕ) (link : Link) → slice_get planned.board.links other ≡ Some link → ¬ (other ≡ own.number) → (k : ℕ) → items.catch_items planned wire number hop k link ≡ []
+          others : (other : ℕ) (link : Link) → slice_get planned.board.links other ≡ Some link → ¬ (other ≡ own.number) → (k : ℕ)
+              → items.catch_items planned wire number hop k link ≡ []
           others other link there apart k =
               ⊎_elim (λ (is : carries hop link ≡ true). absurd (apart (one_link planned.board hop own other link there is)))
               (λ (is : carries hop link ≡ false). ap (λ (test : Bool). cond test (caught_items wire number hop k) []) is) (cases_Bool (carries hop link))
@@ -81,18 +83,21 @@ module _ (planned : PlannedBoard) where
       other w wire k hop = items_text (cond (hop.to == node) (items.hop_items planned w k hop) [])
 
       same : (number place : ℕ) (wire : Wire) (hop : Hop) → slice_get planned.plan.wires number ≡ Some wire → slice_get wire.hops place ≡ Some hop
-          → (w k : ℕ) → cond (hop.to == node) (nodes.register_lines (numbered_hop planned.board.links wire.net w k hop)) [] ≡ items_text (cond (hop.to == node) (items.hop_items planned w k hop) [])
+          → (w k : ℕ)
+          → cond (hop.to == node) (nodes.register_lines (numbered_hop planned.board.links wire.net w k hop)) [] ≡ items_text (cond (hop.to == node) (items.hop_items planned w k hop) [])
       same number place wire hop there is w k = by (hop.to == node) where
         own : HopLink planned.board hop
         own = (hop_facts planned sound number place wire hop there is).over
 
-        by : (here : Bool) → cond here (nodes.register_lines (numbered_hop planned.board.links wire.net w k hop)) [] ≡ items_text (cond here (items.hop_items planned w k hop) [])
+        by : (here : Bool)
+            → cond here (nodes.register_lines (numbered_hop planned.board.links wire.net w k hop)) [] ≡ items_text (cond here (items.hop_items planned w k hop) [])
         by true = sym (ap items_text (hop_items_are w k hop own) ∙ caught_text wire.net w k hop own)
         by false = refl
 
       deep : items_text (items.hops_to planned node) ≡ listed (λ w wire. listed (λ k hop. items_text (cond (hop.to == node) (items.hop_items planned w k hop) [])) 0 wire.hops) 0 planned.plan.wires
       deep = wires 0 planned.plan.wires where
-        wires : (from : ℕ) (list : List Wire) → items_text (listed (items.wire_items planned node) from list) ≡ listed (λ w wire. listed (λ k hop. items_text (cond (hop.to == node) (items.hop_items planned w k hop) [])) 0 wire.hops) from list
+        wires : (from : ℕ) (list : List Wire)
+            → items_text (listed (items.wire_items planned node) from list) ≡ listed (λ w wire. listed (λ k hop. items_text (cond (hop.to == node) (items.hop_items planned w k hop) [])) 0 wire.hops) from list
         wires from [] = refl
         wires from (wire ∷ list) =
             flat_map-append item_text (items.wire_items planned node from wire) (listed (items.wire_items planned node) (suc from) list)
@@ -130,7 +135,8 @@ module _ (planned : PlannedBoard) where
 -- ---- ports
 
 -- by numbers, each of which has its own name on the board
-numbered_ports : (planned : PlannedBoard) (local : ℕ → Local) (name : ℕ → List ℕ) → ((number : ℕ) → port_of planned (local number) ≡ nodes.same_port (name number)) → (count : ℕ)
+numbered_ports : (planned : PlannedBoard) (local : ℕ → Local) (name : ℕ → List ℕ)
+    → ((number : ℕ) → port_of planned (local number) ≡ nodes.same_port (name number)) → (count : ℕ)
     → map (λ number. nodes.same_port (name number)) (range_with_len 0 count) ≡ map (port_of planned) (gather (λ number. local number ∷ []) count)
 numbered_ports planned local name same count =
     sym (map_gather (port_of planned) (λ number. local number ∷ []) count
@@ -192,7 +198,8 @@ module _ (planned : PlannedBoard) (node : ℕ) where
       let pins = listed (λ at link. cond (link.to == node) (pin_ports (pin_in at) planned link) []) 0 planned.board.links in
       ap₂ (λ (one other : List nodes.NodePort). one ++ other) (columns (node == 0)) (ports_in_same planned sound node)
       ∙ sym (map-append (port_of planned) (cond (node == 0) (gather (λ number. column number ∷ []) planned.ordered.flat.inputs) []) pins) where
-        columns : (host : Bool) → cond host (nodes.column_ports planned.ordered.flat.inputs) [] ≡ map (port_of planned) (cond host (gather (λ number. column number ∷ []) planned.ordered.flat.inputs) [])
+        columns : (host : Bool)
+            → cond host (nodes.column_ports planned.ordered.flat.inputs) [] ≡ map (port_of planned) (cond host (gather (λ number. column number ∷ []) planned.ordered.flat.inputs) [])
         columns true = numbered_ports planned column names.column_name (λ number. refl) planned.ordered.flat.inputs
         columns false = refl
 
@@ -202,7 +209,8 @@ module _ (planned : PlannedBoard) (node : ℕ) where
       let shown = cond (node == 0) (gather (λ output. result output ∷ []) (length planned.ordered.flat.outputs)) (listed (λ cell is. cond (slice_index planned.plan.chip_of cell == node) (ports.latch_port cell is) []) 0 planned.ordered.flat.cells) in
       ap₂ (λ (one other : List nodes.NodePort). one ++ other) (ports_out_same planned sound node) (last (node == 0))
       ∙ sym (map-append (port_of planned) pins shown) where
-        last : (host : Bool) → cond host (nodes.output_ports (length planned.ordered.flat.outputs)) (nodes.latch_ports planned.plan.chip_of node 0 0 planned.ordered.flat.cells)
+        last : (host : Bool)
+            → cond host (nodes.output_ports (length planned.ordered.flat.outputs)) (nodes.latch_ports planned.plan.chip_of node 0 0 planned.ordered.flat.cells)
             ≡ map (port_of planned) (cond host (gather (λ output. result output ∷ []) (length planned.ordered.flat.outputs)) (listed (λ cell is. cond (slice_index planned.plan.chip_of cell == node) (ports.latch_port cell is) []) 0 planned.ordered.flat.cells))
         last true = numbered_ports planned result names.output_name (λ number. refl) (length planned.ordered.flat.outputs)
         last false = latches_same [] planned.ordered.flat.cells refl

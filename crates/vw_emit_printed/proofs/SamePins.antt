@@ -29,7 +29,8 @@ use Rattle.vw_emit_printed.proofs.SameCells.{gathered_lines, items_text}
 use Rattle.vw_emit_printed.proofs.SameNames.{delayed_is, local_sent, local_sent_is, pin_in_is, pin_net_is, pin_out_is, sent_is}
 
 -- what is given by each of some outlets by a test
-given_when : {X : Type 0} (test : Bool) (each other : Outlet → List X) (list : List Outlet) → AllByRecursion (λ outlet. each outlet ≡ cond test (other outlet) []) list
+given_when : {X : Type 0} (test : Bool) (each other : Outlet → List X) (list : List Outlet)
+    → AllByRecursion (λ outlet. each outlet ≡ cond test (other outlet) []) list
     → flat_map each list ≡ cond test (flat_map other list) []
 given_when true each other [] all = refl
 given_when false each other [] all = refl
@@ -54,7 +55,8 @@ late_is outlet (suc before) =
 
 module _ (planned : PlannedBoard) where
   -- its table
-  send_text : (outlet : Outlet) → items_text (items.send_item outlet.hop.link outlet.hop.pin outlet.number (user_of planned outlet.hop) ∷ []) ≡ nodes.chosen_lines planned outlet
+  send_text : (outlet : Outlet)
+      → items_text (items.send_item outlet.hop.link outlet.hop.pin outlet.number (user_of planned outlet.hop) ∷ []) ≡ nodes.chosen_lines planned outlet
   send_text outlet = append-nil (item_text (items.send_item outlet.hop.link outlet.hop.pin outlet.number (user_of planned outlet.hop))) ∙ by outlet.number where
     by : (number : ℕ) → item_text (items.send_item outlet.hop.link outlet.hop.pin number (user_of planned outlet.hop)) ≡ nodes.chosen_lines planned (record { hop = outlet.hop; number = number; is_last = outlet.is_last })
     by zero =
@@ -105,7 +107,8 @@ module _ (planned : PlannedBoard) where
     senders k list = listed (λ at one. items.send_item number pin at one ∷ []) k list
 
     -- the lines of one hop
-    one_text : (outlet : Outlet) → IsHere outlet.hop → items_text (items.send_item number pin outlet.number (user_of planned outlet.hop) ∷ []) ≡ nodes.chosen_lines planned outlet
+    one_text : (outlet : Outlet) → IsHere outlet.hop
+        → items_text (items.send_item number pin outlet.number (user_of planned outlet.hop) ∷ []) ≡ nodes.chosen_lines planned outlet
     one_text outlet is =
         ap₂ (λ (l p : ℕ). items_text (items.send_item l p outlet.number (user_of planned outlet.hop) ∷ [])) (sym is.own.over) (sym is.own.by) ∙ send_text outlet
 
@@ -154,13 +157,15 @@ module _ (planned : PlannedBoard) where
     sender_text node hops all =
         given_when (link.from == node) (nodes.sender_items planned node) (nodes.outlet_lines planned) (in_turn 0 hops) (each 0 hops all)
         ∙ ap (λ (text : List (List ℕ)). cond (link.from == node) text []) (pin_text hops all) where
-          each : (k : ℕ) (some : List NumberedHop) → AllByRecursion IsHere some → AllByRecursion (λ outlet. nodes.sender_items planned node outlet ≡ cond (link.from == node) (nodes.outlet_lines planned outlet) []) (in_turn k some)
+          each : (k : ℕ) (some : List NumberedHop) → AllByRecursion IsHere some
+              → AllByRecursion (λ outlet. nodes.sender_items planned node outlet ≡ cond (link.from == node) (nodes.outlet_lines planned outlet) []) (in_turn k some)
           each k [] every = tt
           each k (hop ∷ some) every =
               (ap (λ (from : ℕ). cond (from == node) (nodes.outlet_lines planned (record { hop = hop; number = k; is_last = is_end some })) []) every.0.goes.from, each (suc k) some every.1)
 
 -- the lines of the pins that leave a node
-pub senders_text : (planned : PlannedBoard) → IsSound planned → (node : ℕ) → items_text (items.pins_from planned node) ≡ nodes.sent_items planned node (outlets planned)
+pub senders_text : (planned : PlannedBoard) → IsSound planned → (node : ℕ)
+    → items_text (items.pins_from planned node) ≡ nodes.sent_items planned node (outlets planned)
 senders_text planned sound node =
     flat_map_listed item_text (items.link_items planned node) 0 planned.board.links
     ∙ listed_agree (λ number link. items_text (items.link_items planned node number link)) (λ number link. gather (λ pin. lines_of number link pin (users planned link pin)) link.width) of_link 0 planned.board.links
@@ -168,7 +173,8 @@ senders_text planned sound node =
       lines_of : ℕ → Link → ℕ → List User → List (List ℕ)
       lines_of number link pin list = cond (link.from == node) (items_text (items.pin_items number pin (link.delay - 1) list)) []
 
-      of_link : (number : ℕ) (link : Link) → items_text (items.link_items planned node number link) ≡ gather (λ pin. lines_of number link pin (users planned link pin)) link.width
+      of_link : (number : ℕ) (link : Link)
+          → items_text (items.link_items planned node number link) ≡ gather (λ pin. lines_of number link pin (users planned link pin)) link.width
       of_link number link = by (link.from == node) where
         when : (own : Bool) → items_text (cond own (gather (λ pin. items.pin_items number pin (link.delay - 1) (users planned link pin)) link.width) [])
             ≡ cond own (gather (λ pin. items_text (items.pin_items number pin (link.delay - 1) (users planned link pin))) link.width) []
@@ -203,7 +209,8 @@ module _ (planned : PlannedBoard) (sound : IsSound planned) (node : ℕ) (end : 
       ap₂ (λ (first rest : List nodes.NodePort). first ++ rest)
       (ap (λ (test : Bool). cond (test && own_end hop == node) (emitted hop ∷ []) []) other) (later_none (suc k) hops)
 
-  pin_given : (number pin : ℕ) (link : Link) (hops : List NumberedHop) → slice_get planned.board.links number ≡ Some link → AllByRecursion (IsOf planned number pin link) hops
+  pin_given : (number pin : ℕ) (link : Link) (hops : List NumberedHop) → slice_get planned.board.links number ≡ Some link
+      → AllByRecursion (IsOf planned number pin link) hops
       → flat_map given (in_turn 0 hops) ≡ wanted number link pin (map (user_of planned) hops)
   unfolding given wanted
   pin_given number pin link [] there all = either [] (end link == node)
@@ -220,12 +227,14 @@ module _ (planned : PlannedBoard) (sound : IsSound planned) (node : ℕ) (end : 
       by_pins planned sound given wanted pin_given
       ∙ listed_agree (λ number link. gather (λ pin. wanted number link pin (users planned link pin)) link.width) (λ number link. map (port_of planned) (cond (end link == node) (pin_ports (port number) planned link) [])) of_link 0 planned.board.links
       ∙ sym (map_listed (port_of planned) (λ at link. cond (end link == node) (pin_ports (port at) planned link) []) 0 planned.board.links) where
-        when : (own : Bool) (number : ℕ) (link : Link) → cond own (gather (λ pin. map (port_of planned) (used_port (port number pin) (users planned link pin))) link.width) []
+        when : (own : Bool) (number : ℕ) (link : Link)
+            → cond own (gather (λ pin. map (port_of planned) (used_port (port number pin) (users planned link pin))) link.width) []
             ≡ map (port_of planned) (cond own (pin_ports (port number) planned link) [])
         when true number link = sym (map_gather (port_of planned) (λ pin. used_port (port number pin) (users planned link pin)) link.width)
         when false number link = refl
 
-        of_link : (number : ℕ) (link : Link) → gather (λ pin. wanted number link pin (users planned link pin)) link.width ≡ map (port_of planned) (cond (end link == node) (pin_ports (port number) planned link) [])
+        of_link : (number : ℕ) (link : Link)
+            → gather (λ pin. wanted number link pin (users planned link pin)) link.width ≡ map (port_of planned) (cond (end link == node) (pin_ports (port number) planned link) [])
         of_link number link =
             gather_when (end link == node) (λ pin. map (port_of planned) (used_port (port number pin) (users planned link pin))) link.width ∙ when (end link == node) number link
 

@@ -86,7 +86,8 @@ module _ (planned : PlannedBoard) (sound : IsSound planned) where
       ∙ ap (λ (list : List (List ℕ)). lines.blif_model name (of (nodes.node_inputs planned node)) (of (nodes.node_outputs planned node)) list)
       (local_items (items.node_items planned node) ∙ items_same planned sound node)
 
-  nodes_on : (line : ℕ) (list : List ℕ) → in_bytes (design_lines emitting (models_from line (map (node_model planned) list))) ≡ flat_map (emitted.node_model_lines planned) list
+  nodes_on : (line : ℕ) (list : List ℕ)
+      → in_bytes (design_lines emitting (models_from line (map (node_model planned) list))) ≡ flat_map (emitted.node_model_lines planned) list
   nodes_on line [] = refl
   nodes_on line (node ∷ list) =
       let own = model_lines emitting (model_from line (node_model planned node)) in

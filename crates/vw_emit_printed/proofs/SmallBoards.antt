@@ -38,7 +38,8 @@ use Rattle.vw_emit_printed.proofs.Totals.{total, total_same}
 
 -- ---- items that place nothing
 
-leaf_none : (weight : Item → ℕ) (below : Word → ℕ) → ((item : Item) → is_cell item ≡ true → weight item ≡ 0) → (items : List Item) → list_all is_cell items ≡ true → items_weight weight below items ≡ 0
+leaf_none : (weight : Item → ℕ) (below : Word → ℕ) → ((item : Item) → is_cell item ≡ true → weight item ≡ 0) → (items : List Item)
+    → list_all is_cell items ≡ true → items_weight weight below items ≡ 0
 leaf_none weight below none [] all = refl
 leaf_none weight below none (Names line ins out cover ∷ items) all = omega (arith, none (Names line ins out cover) refl, leaf_none weight below none items all)
 leaf_none weight below none (Latch line d q edge control init ∷ items) all = omega (arith, none (Latch line d q edge control init) refl, leaf_none weight below none items all)
@@ -77,19 +78,23 @@ behind_first : List PlainItem → List PlainItem
 behind_first [] = []
 behind_first (item ∷ items) = items
 
-placed_is : (planned : PlannedBoard) (node line : ℕ) (model : Word) (binds : List Bind) → plain_item (Sub line model binds) ≡ placed_node planned node → IsPlaced planned node model binds
+placed_is : (planned : PlannedBoard) (node line : ℕ) (model : Word) (binds : List Bind)
+    → plain_item (Sub line model binds) ≡ placed_node planned node → IsPlaced planned node model binds
 unfolding model_in binds_in
 placed_is planned node line model binds same = record { named = ap model_in same; bound = ap binds_in same }
 
 module _ (planned : PlannedBoard) where
-  first_same : (item : Item) (items : List Item) (node : ℕ) (nodes : List ℕ) → map plain_item (item ∷ items) ≡ map (placed_node planned) (node ∷ nodes) → plain_item item ≡ placed_node planned node
+  first_same : (item : Item) (items : List Item) (node : ℕ) (nodes : List ℕ)
+      → map plain_item (item ∷ items) ≡ map (placed_node planned) (node ∷ nodes) → plain_item item ≡ placed_node planned node
   first_same item items node nodes same = same_Some (plain_item item) (placed_node planned node) (ap (λ (list : List PlainItem). slice_get list 0) same)
 
-  rest_same : (item : Item) (items : List Item) (node : ℕ) (nodes : List ℕ) → map plain_item (item ∷ items) ≡ map (placed_node planned) (node ∷ nodes) → map plain_item items ≡ map (placed_node planned) nodes
+  rest_same : (item : Item) (items : List Item) (node : ℕ) (nodes : List ℕ)
+      → map plain_item (item ∷ items) ≡ map (placed_node planned) (node ∷ nodes) → map plain_item items ≡ map (placed_node planned) nodes
   unfolding behind_first
   rest_same item items node nodes same = ap behind_first same
 
-  over_nodes : (weight : Item → ℕ) (below : Word → ℕ) (of_node : ℕ → ℕ) (items : List Item) (nodes : List ℕ) → map plain_item items ≡ map (placed_node planned) nodes
+  over_nodes : (weight : Item → ℕ) (below : Word → ℕ) (of_node : ℕ → ℕ) (items : List Item) (nodes : List ℕ)
+      → map plain_item items ≡ map (placed_node planned) nodes
       → ((node : ℕ) → Has node nodes → (line : ℕ) (model : Word) (binds : List Bind) → IsPlaced planned node model binds → weight (Sub line model binds) + below model ≡ of_node node)
       → items_weight weight below items ≡ sum_by of_node nodes
   over_nodes weight below of_node [] [] same each = refl
@@ -97,13 +102,15 @@ module _ (planned : PlannedBoard) where
   over_nodes weight below of_node (item ∷ items) [] same each = cc
   over_nodes weight below of_node (item ∷ items) (node ∷ nodes) same each =
       by item (first_same item items node nodes same) (over_nodes weight below of_node items nodes (rest_same item items node nodes same) (λ other has. each other (inr has))) where
-        by : (one : Item) → plain_item one ≡ placed_node planned node → items_weight weight below items ≡ sum_by of_node nodes → items_weight weight below (one ∷ items) ≡ sum_by of_node (node ∷ nodes)
+        by : (one : Item) → plain_item one ≡ placed_node planned node → items_weight weight below items ≡ sum_by of_node nodes
+            → items_weight weight below (one ∷ items) ≡ sum_by of_node (node ∷ nodes)
         by (Names line ins out cover) is rest = cc
         by (Latch line d q edge control init) is rest = cc
         by (Sub line model binds) is rest = omega (arith, each node (inl refl) line model binds (placed_is planned node line model binds is), rest, sum_by-cons of_node node nodes)
 
   -- none of which is higher than one level
-  nodes_high : (below : Word → ℕ) (items : List Item) (nodes : List ℕ) → map plain_item items ≡ map (placed_node planned) nodes → ((node : ℕ) → Has node nodes → below (node_name node) ≡ 0) → items_height below items ≤ 1
+  nodes_high : (below : Word → ℕ) (items : List Item) (nodes : List ℕ) → map plain_item items ≡ map (placed_node planned) nodes
+      → ((node : ℕ) → Has node nodes → below (node_name node) ≡ 0) → items_height below items ≤ 1
   nodes_high below [] nodes same each = omega arith
   nodes_high below (item ∷ items) [] same each = cc
   nodes_high below (item ∷ items) (node ∷ nodes) same each =
@@ -149,7 +156,8 @@ module _ (planned : PlannedBoard) (sound : IsSound planned) (board : Design) (is
         let same : map plain_item own.items ≡ map spelled_item (node_items planned node) = ap (λ (model : PlainModel). model.items) (node_model_of planned board is_board node inside).1.same in
         sym (length-map own.items plain_item) ∙ ap length same ∙ length-map (node_items planned node) spelled_item
 
-    weighs : (weight : Item → ℕ) (depth : ℕ) → model_weight board weight (suc depth) (node_name node) ≡ items_weight weight (model_weight board weight depth) own.items
+    weighs : (weight : Item → ℕ) (depth : ℕ)
+        → model_weight board weight (suc depth) (node_name node) ≡ items_weight weight (model_weight board weight depth) own.items
     weighs weight depth = ap (λ (found : Option Model). items_weight weight (model_weight board weight depth) (items_of found)) named
 
     reaches : (depth : ℕ) → model_height board (suc depth) (node_name node) ≡ 0

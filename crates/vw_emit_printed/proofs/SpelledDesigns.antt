@@ -44,7 +44,8 @@ unfolding row_of
 rows_spelled [] = refl
 rows_spelled (row ∷ rows) = ap (λ (rest : List (List Mark)). row ∷ rest) (rows_spelled rows)
 
-rows_even : (width : ℕ) (rows : List (List Mark)) → list_all (λ row. length row == width) rows ≡ true → All (λ (row : Row). length row.marks ≡ width) (map row_of rows)
+rows_even : (width : ℕ) (rows : List (List Mark)) → list_all (λ row. length row == width) rows ≡ true
+    → All (λ (row : Row). length row.marks ≡ width) (map row_of rows)
 unfolding row_of
 rows_even width [] even = All-nil (λ (row : Row). length row.marks ≡ width)
 rows_even width (row ∷ rows) even =
@@ -61,7 +62,8 @@ record IsMade (item : SpelledItem) : Type 0 where
 abbrev has_rows : List Word → Bool → List (List Mark) → Bool
 has_rows ins on rows = list_all (λ row. length row == length ins) rows && (on || not (is_empty rows))
 
-table_of : (ins : List Word) (on : Bool) (rows : List (List Mark)) → nat_le (length ins) 128 ≡ true → list_all (λ row. length row == length ins) rows ≡ true → Table
+table_of : (ins : List Word) (on : Bool) (rows : List (List Mark)) → nat_le (length ins) 128 ≡ true
+    → list_all (λ row. length row == length ins) rows ≡ true → Table
 table_of ins on rows few even = record { inputs = length ins; on = on; rows = map row_of rows; narrow = leb-true (length ins) 128 few; even = rows_even (length ins) rows even }
 
 item_made : (item : SpelledItem) → is_plain_item item ≡ true → IsMade item

@@ -48,7 +48,8 @@ module _ (own : ℕ) (test : ℕ → Bool) (only : (number : ℕ) → test numbe
     whole : total (λ number. cond (test number) (f number) 0) from (suc count) ≡ cond (test from) (f from) 0 + total (λ number. cond (test number) (f number) 0) (from + 1) count
     whole = sum_by-cons (λ (number : ℕ). cond (test number) (f number) 0) from (range_with_len (from + 1) count)
 
-    by : (is : Bool) → test from ≡ is → total (λ number. cond (test number) (f number) 0) (from + 1) count ≤ most → total (λ number. cond (test number) (f number) 0) from (suc count) ≤ most
+    by : (is : Bool) → test from ≡ is → total (λ number. cond (test number) (f number) 0) (from + 1) count ≤ most
+        → total (λ number. cond (test number) (f number) 0) from (suc count) ≤ most
     by true is behind_few =
         let here : cond (test from) (f from) 0 ≡ f from = ap (λ (b : Bool). cond b (f from) 0) is in
         let same = only from is in
@@ -60,7 +61,8 @@ module _ (own : ℕ) (test : ℕ → Bool) (only : (number : ℕ) → test numbe
 
 -- lists of elements, for each number, where what an element gives over all numbers is bounded
 module _ {A X : Type 0} (each : ℕ → ℕ → A → List X) (most : A → ℕ) (from count : ℕ) where
-  pub total_listed : (number : ℕ) (xs : List A) → ((place : ℕ) (x : A) → slice_get xs place ≡ Some x → (k : ℕ) → total (λ node. length (each node k x)) from count ≤ most x)
+  pub total_listed : (number : ℕ) (xs : List A)
+      → ((place : ℕ) (x : A) → slice_get xs place ≡ Some x → (k : ℕ) → total (λ node. length (each node k x)) from count ≤ most x)
       → total (λ node. length (listed (each node) number xs)) from count ≤ sum_by most xs
   total_listed number [] few = none (range_with_len from count) where
     none : (nodes : List ℕ) → sum_by (λ (node : ℕ). 0) nodes ≤ 0

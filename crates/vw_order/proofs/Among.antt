@@ -21,7 +21,8 @@ pub among_right : (numbers others : List ℕ) (number : ℕ) → is_among others
 among_right numbers others number among =
     list_any-append (λ (other : ℕ). other == number) numbers others ∙ or_right (is_among numbers number) (is_among others number) among
 
-pub among_either : (numbers others : List ℕ) (number : ℕ) → is_among (numbers ++ others) number ≡ true → (is_among numbers number ≡ true) ⊎ (is_among others number ≡ true)
+pub among_either : (numbers others : List ℕ) (number : ℕ) → is_among (numbers ++ others) number ≡ true
+    → (is_among numbers number ≡ true) ⊎ (is_among others number ≡ true)
 among_either numbers others number among =
     or_cases (is_among numbers number) (is_among others number) (sym (list_any-append (λ (other : ℕ). other == number) numbers others) ∙ among)
 
@@ -42,7 +43,8 @@ once_part (number ∷ front) back once = once_part front back (IsDistinct-tail e
 pub once_push : (numbers : List ℕ) (number : ℕ) → IsDistinct eqb numbers → is_among numbers number ≡ false → IsDistinct eqb (numbers ++ number ∷ [])
 once_push numbers number once fresh = IsDistinct-push nat_eq_equiv numbers number once (sym (is_among-flip number numbers) ∙ fresh)
 
-pub once_short : (numbers : List ℕ) (count : ℕ) → IsDistinct eqb numbers → ((number : ℕ) → is_among numbers number ≡ true → number < count) → length numbers ≤ count
+pub once_short : (numbers : List ℕ) (count : ℕ) → IsDistinct eqb numbers → ((number : ℕ) → is_among numbers number ≡ true → number < count)
+    → length numbers ≤ count
 once_short numbers count once within = length-le_from_distinct_below numbers count once (λ number among. within number (is_among-flip number numbers ∙ among))
 
 pub once_moved : (order stack : List ℕ) (number : ℕ) → IsDistinct eqb (order ++ (stack ++ number ∷ [])) → IsDistinct eqb ((order ++ number ∷ []) ++ stack)
@@ -73,7 +75,8 @@ front_position test (x ∷ xs) (suc end) any = by (test x) refl (⊎_elim (λ he
 abbrev pub place_among : List ℕ → ℕ → ℕ
 place_among numbers number = position_or_len (λ (other : ℕ). other == number) numbers
 
-pub at_place : (numbers : List ℕ) (number : ℕ) → is_among numbers number ≡ true → (place_among numbers number < length numbers) × (get_or numbers (place_among numbers number) 0 ≡ number)
+pub at_place : (numbers : List ℕ) (number : ℕ) → is_among numbers number ≡ true
+    → (place_among numbers number < length numbers) × (get_or numbers (place_among numbers number) 0 ≡ number)
 at_place numbers number among =
     let whole : is_among (take (length numbers) numbers) number ≡ true = ap (λ (l : List ℕ). is_among l number) (take_all (length numbers) numbers (omega arith)) ∙ among in
     let within : place_among numbers number < length numbers = front_position (λ (other : ℕ). other == number) numbers (length numbers) whole in

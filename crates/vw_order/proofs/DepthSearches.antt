@@ -43,16 +43,19 @@ among_other numbers number other apart =
     list_any-append (λ (n : ℕ). n == other) numbers (number ∷ []) ∙ ap (λ (b : Bool). is_among numbers other || (b || false)) (ne_eqb number other apart) ∙ or-false (is_among numbers other)
 
 -- one more stands behind those that it reads
-pub behind_more : (graph : Graph) (order : List ℕ) (number : ℕ) → IsBehind graph order → ((place read : ℕ) → ReadsAt graph number place read → is_among order read ≡ true) → IsBehind graph (order ++ number ∷ [])
+pub behind_more : (graph : Graph) (order : List ℕ) (number : ℕ) → IsBehind graph order
+    → ((place read : ℕ) → ReadsAt graph number place read → is_among order read ≡ true) → IsBehind graph (order ++ number ∷ [])
 behind_more graph order number behind kid = λ i place read before reads.
     ⊎_elim (earlier i place read reads) (λ later. last i place read reads (omega (arith, before, length-append order (number ∷ [])))) (cases_lt i (length order))
   where
-    earlier : (i place read : ℕ) → ReadsAt graph (get_or (order ++ number ∷ []) i 0) place read → i < length order → is_among (take i (order ++ number ∷ [])) read ≡ true
+    earlier : (i place read : ℕ) → ReadsAt graph (get_or (order ++ number ∷ []) i 0) place read → i < length order
+        → is_among (take i (order ++ number ∷ [])) read ≡ true
     earlier i place read reads before =
         ap (λ (front : List ℕ). is_among front read) (take-append-le i order (number ∷ []) (omega arith))
         ∙ behind i place read before (subst (λ (n : ℕ). ReadsAt graph n place read) (get_or_append_left order (number ∷ []) 0 i before) reads)
 
-    last : (i place read : ℕ) → ReadsAt graph (get_or (order ++ number ∷ []) i 0) place read → i ≡ length order → is_among (take i (order ++ number ∷ [])) read ≡ true
+    last : (i place read : ℕ) → ReadsAt graph (get_or (order ++ number ∷ []) i 0) place read → i ≡ length order
+        → is_among (take i (order ++ number ∷ [])) read ≡ true
     last i place read reads is =
         ap (λ (n : ℕ). is_among (take n (order ++ number ∷ [])) read) is ∙ ap (λ (front : List ℕ). is_among front read) (take-append_seam order (number ∷ []))
         ∙ kid place read (subst (λ (n : ℕ). ReadsAt graph n place read) (ap (λ (n : ℕ). get_or (order ++ number ∷ []) n 0) is ∙ get_or-append_seam order number [] 0) reads)
@@ -66,7 +69,8 @@ pub record IsAtTop (graph : Graph) (progress : List Progress) (cursors order sta
 
 module _ (graph : Graph) where
   -- the same lists
-  pub same_search : (progress others : List Progress) (cursors cursors' order order' stack stack' : List ℕ) → IsSearch graph progress cursors order stack → others ≡ progress → cursors' ≡ cursors → order' ≡ order → stack' ≡ stack
+  pub same_search : (progress others : List Progress) (cursors cursors' order order' stack stack' : List ℕ)
+      → IsSearch graph progress cursors order stack → others ≡ progress → cursors' ≡ cursors → order' ≡ order → stack' ≡ stack
       → IsSearch graph others cursors' order' stack'
   same_search progress others cursors cursors' order order' stack stack' far m c o s =
       subst (λ (l : List ℕ). IsSearch graph others cursors' order' l) (sym s)
@@ -90,7 +94,8 @@ module _ (graph : Graph) where
     zeros other = ⊎_elim (λ inside. get_or-replicate {A = ℕ} graph.count other 0 0 inside) (λ past. get_or_past (replicate {A = ℕ} graph.count 0) other 0 (omega (arith, length-replicate {A = ℕ} graph.count 0))) (cases_lt other graph.count)
 
   -- a first one is opened
-  pub rooted : (progress : List Progress) (cursors order : List ℕ) (root : ℕ) → IsSearch graph progress cursors order [] → get_or progress root Fresh ≡ Fresh → root < graph.count → graph.counts root ≡ true
+  pub rooted : (progress : List Progress) (cursors order : List ℕ) (root : ℕ) → IsSearch graph progress cursors order []
+      → get_or progress root Fresh ≡ Fresh → root < graph.count → graph.counts root ≡ true
       → IsSearch graph (slice_set progress root Open) cursors order (root ∷ [])
   rooted progress cursors order root far fresh within counts = record {
     progress_each = length-set progress root Open ∙ far.progress_each;
@@ -149,7 +154,8 @@ module _ (graph : Graph) where
           (among_either order (stack ++ number ∷ []) other among)
 
       -- the last one is done
-      pub finished : IsAhead progress (get_or cursors number 0) (graph.reads number) None → IsSearch graph (slice_set progress number Done) cursors (order ++ number ∷ []) stack
+      pub finished : IsAhead progress (get_or cursors number 0) (graph.reads number) None
+          → IsSearch graph (slice_set progress number Done) cursors (order ++ number ∷ []) stack
       finished ahead = record {
         progress_each = length-set progress number Done ∙ far.progress_each;
         cursors_each = far.cursors_each;
@@ -188,7 +194,8 @@ module _ (graph : Graph) where
         next_within = within.below next.number next_counts
 
         -- what is done or open stays so where one more is opened
-        pub joined : (other : ℕ) → is_among (order ++ (stack ++ number ∷ [])) other ≡ true → is_among (order ++ (stack ++ number ∷ next.number ∷ [])) other ≡ true
+        pub joined : (other : ℕ) → is_among (order ++ (stack ++ number ∷ [])) other ≡ true
+            → is_among (order ++ (stack ++ number ∷ next.number ∷ [])) other ≡ true
         joined other among =
             ap (λ (s : List ℕ). is_among s other) (ap (λ (s : List ℕ). order ++ s) (sym (append_assoc stack (number ∷ []) (next.number ∷ []))) ∙ sym (append_assoc order (stack ++ number ∷ []) (next.number ∷ [])))
             ∙ among_left (order ++ (stack ++ number ∷ [])) (next.number ∷ []) other among
@@ -212,25 +219,29 @@ module _ (graph : Graph) where
           new : is_among (order ++ (stack ++ number ∷ [])) next.number ≡ false
           new = list_any-append (λ (n : ℕ). n == next.number) order (stack ++ number ∷ []) ∙ ap₂ (λ (a b : Bool). a || b) fresh.0 fresh.1
 
-          same : (other : ℕ) → next.number ≡ other → get_or (slice_set progress next.number Open) other Fresh ≡ progress_of order ((stack ++ number ∷ []) ++ next.number ∷ []) other
+          same : (other : ℕ) → next.number ≡ other
+              → get_or (slice_set progress next.number Open) other Fresh ≡ progress_of order ((stack ++ number ∷ []) ++ next.number ∷ []) other
           same other is =
               ap (λ (n : ℕ). get_or (slice_set progress next.number Open) n Fresh) (sym is) ∙ get_or-set_same progress next.number Open Fresh (omega (arith, next_within, far.progress_each))
               ∙ ap₂ (λ (a b : Bool). cond a Done (cond b Open Fresh)) (sym (ap (is_among order) (sym is) ∙ fresh.0))
               (sym (ap (is_among ((stack ++ number ∷ []) ++ next.number ∷ [])) (sym is) ∙ among_last (stack ++ number ∷ []) next.number))
 
-          apart : (other : ℕ) → next.number ≢ other → get_or (slice_set progress next.number Open) other Fresh ≡ progress_of order ((stack ++ number ∷ []) ++ next.number ∷ []) other
+          apart : (other : ℕ) → next.number ≢ other
+              → get_or (slice_set progress next.number Open) other Fresh ≡ progress_of order ((stack ++ number ∷ []) ++ next.number ∷ []) other
           apart other differ =
               get_or-set_other progress next.number other Open Fresh (λ e. differ (sym e)) ∙ far.known other
               ∙ ap (λ (b : Bool). cond (is_among order other) Done (cond b Open Fresh)) (sym (among_other (stack ++ number ∷ []) next.number other differ))
 
-          scanned : (other place read : ℕ) → place < get_or (slice_set cursors number next.place) other 0 → ReadsAt graph other place read → number ≡ other → is_among order read ≡ true
+          scanned : (other place read : ℕ) → place < get_or (slice_set cursors number next.place) other 0 → ReadsAt graph other place read
+              → number ≡ other → is_among order read ≡ true
           scanned other place read before reads is =
               let at : get_or (slice_set cursors number next.place) other 0 ≡ next.place =
               ap (λ (n : ℕ). get_or (slice_set cursors number next.place) n 0) (sym is) ∙ get_or-set_same cursors number next.place 0 (omega (arith, top_within, far.cursors_each)) in
               let here : ReadsAt graph number place read = subst (λ (n : ℕ). ReadsAt graph n place read) (sym is) reads in
               ⊎_elim (λ earlier. far.done number place read earlier here) (λ further. all_done read (ahead.0 place read further (omega (arith, before, at)) here)) (cases_lt place (get_or cursors number 0))
 
-          unscanned : (other place read : ℕ) → place < get_or (slice_set cursors number next.place) other 0 → ReadsAt graph other place read → number ≢ other → is_among order read ≡ true
+          unscanned : (other place read : ℕ) → place < get_or (slice_set cursors number next.place) other 0 → ReadsAt graph other place read
+              → number ≢ other → is_among order read ≡ true
           unscanned other place read before reads differ =
               far.done other place read (subst (λ (n : ℕ). place < n) (get_or-set_other cursors number other next.place 0 (λ e. differ (sym e))) before) reads
 
@@ -252,7 +263,8 @@ module _ (graph : Graph) where
             (λ other among. far.counted other (among_right order (stack ++ number ∷ []) other among))
 
   -- nothing is open, and all is reached
-  pub ended : (progress : List Progress) (cursors order : List ℕ) → IsSearch graph progress cursors order [] → ((number : ℕ) → graph.starts number ≡ true → is_among order number ≡ true) → IsNumberOrder graph order
+  pub ended : (progress : List Progress) (cursors order : List ℕ) → IsSearch graph progress cursors order []
+      → ((number : ℕ) → graph.starts number ≡ true → is_among order number ≡ true) → IsNumberOrder graph order
   ended progress cursors order far all = record {
     all = all;
     counted = λ number among. far.counted number (ap (λ (s : List ℕ). is_among s number) (append-nil order) ∙ among);
@@ -261,13 +273,15 @@ module _ (graph : Graph) where
   }
 
 -- what was done is done where nothing is open before and after
-kept_done : (old new : DepthSearch) → old.stack.items ≡ [] → new.stack.items ≡ [] → KeepsNumbers old new → (number : ℕ) → is_among old.order.items number ≡ true → is_among new.order.items number ≡ true
+kept_done : (old new : DepthSearch) → old.stack.items ≡ [] → new.stack.items ≡ [] → KeepsNumbers old new → (number : ℕ)
+    → is_among old.order.items number ≡ true → is_among new.order.items number ≡ true
 kept_done old new rests rest kept number done =
     let was : is_among (old.order.items ++ old.stack.items) number ≡ true = ap (λ (l : List ℕ). is_among (old.order.items ++ l) number) rests ∙ ap (λ (l : List ℕ). is_among l number) (append-nil old.order.items) ∙ done in
     sym (ap (λ (l : List ℕ). is_among (new.order.items ++ l) number) rest ∙ ap (λ (l : List ℕ). is_among l number) (append-nil new.order.items)) ∙ kept number was
 
 -- one number more was visited
-pub visited_further : (graph : Graph) (old new : DepthSearch) (i : ℕ) → old.stack.items ≡ [] → ((number : ℕ) → number < i → graph.starts number ≡ true → is_among old.order.items number ≡ true)
+pub visited_further : (graph : Graph) (old new : DepthSearch) (i : ℕ) → old.stack.items ≡ []
+    → ((number : ℕ) → number < i → graph.starts number ≡ true → is_among old.order.items number ≡ true)
     → IsVisited graph old new i None
     → IsDepthSearch graph new × (new.stack.items ≡ []) × ((number : ℕ) → number < i + 1 → graph.starts number ≡ true → is_among new.order.items number ≡ true)
 visited_further graph old new i rests before visited = (

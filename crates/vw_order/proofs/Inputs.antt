@@ -12,9 +12,11 @@ use Rattle.vw_order.specs.Graphs.{Reads, StaysWithin}
 use Rattle.vw_order.specs.Steps.Gates.{gate_of, gates}
 
 -- the gate that drives a net
-gate_is : (inputs : ℕ) (cells : List Cell) (net number : ℕ) → gate_of inputs cells net ≡ Some number → (net ≡ inputs + number) × (is_gate (slice_get cells number) ≡ true)
+gate_is : (inputs : ℕ) (cells : List Cell) (net number : ℕ) → gate_of inputs cells net ≡ Some number
+    → (net ≡ inputs + number) × (is_gate (slice_get cells number) ≡ true)
 gate_is inputs cells net number is = by (nat_lt net inputs) refl (is_gate (slice_get cells (net - inputs))) refl is where
-  by : (low : Bool) → nat_lt net inputs ≡ low → (gate : Bool) → is_gate (slice_get cells (net - inputs)) ≡ gate → cond low None (cond gate (Some (net - inputs)) None) ≡ Some number
+  by : (low : Bool) → nat_lt net inputs ≡ low → (gate : Bool) → is_gate (slice_get cells (net - inputs)) ≡ gate
+      → cond low None (cond gate (Some (net - inputs)) None) ≡ Some number
       → (net ≡ inputs + number) × (is_gate (slice_get cells number) ≡ true)
   by true low gate is_it found = absurd (none-some number found)
   by false low false is_it found = absurd (none-some number found)
@@ -30,7 +32,8 @@ is_gate_of inputs cells number gate =
     rw (past, same, gate) refl
 
 -- what stands at a place of a list of answers
-map_at : (f : ℕ → Option ℕ) (nets : List ℕ) (place number : ℕ) → slice_get (map f nets) place ≡ Some (Some number) → (net : ℕ) × (is_among nets net ≡ true) × (f net ≡ Some number)
+map_at : (f : ℕ → Option ℕ) (nets : List ℕ) (place number : ℕ) → slice_get (map f nets) place ≡ Some (Some number)
+    → (net : ℕ) × (is_among nets net ≡ true) × (f net ≡ Some number)
 map_at f [] place number at = absurd (none-some (Some number) at)
 map_at f (net ∷ nets) zero number at = (net, or_left (net == net) (is_among nets net) (eq-eqb net net refl), same_Some (f net) (Some number) at)
 map_at f (net ∷ nets) (suc place) number at =

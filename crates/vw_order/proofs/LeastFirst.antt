@@ -38,7 +38,8 @@ module _ (circle : List ℕ) (start : ℕ) (within : start < length circle) wher
     each = turns (Reads graph) start circle (omega (arith, within)) is_circle.each;
   }
 
-pub from_least : (graph : Graph) (circle : List ℕ) (start : ℕ) → IsLeast circle start → IsNumberCircle graph circle → IsNumberCircle graph (drop start circle ++ take start circle) × BeginsWithLeast (drop start circle ++ take start circle)
+pub from_least : (graph : Graph) (circle : List ℕ) (start : ℕ) → IsLeast circle start → IsNumberCircle graph circle
+    → IsNumberCircle graph (drop start circle ++ take start circle) × BeginsWithLeast (drop start circle ++ take start circle)
 from_least graph circle start least is_circle = (round_circle circle start least.0 graph is_circle, begins) where
   begins : BeginsWithLeast (drop start circle ++ take start circle)
   begins = λ i inside.
@@ -51,7 +52,8 @@ only_least : (number other : ℕ) → other < 1 → number ≤ get_or (number �
 only_least number zero before = omega arith
 only_least number (suc other) before = absurd (omega arith)
 
-first_or_later : (first : ℕ) (rest : List ℕ) (least : ℕ) → least ≤ first → ((other : ℕ) → other < length rest → least ≤ get_or rest other 0) → (other : ℕ) → other < suc (length rest) → least ≤ get_or (first ∷ rest) other 0
+first_or_later : (first : ℕ) (rest : List ℕ) (least : ℕ) → least ≤ first → ((other : ℕ) → other < length rest → least ≤ get_or rest other 0)
+    → (other : ℕ) → other < suc (length rest) → least ≤ get_or (first ∷ rest) other 0
 first_or_later first rest least most later zero before = most
 first_or_later first rest least most later (suc other) before = later other (omega arith)
 

@@ -13,7 +13,8 @@ use Rattle.vw_order.proofs.LeastFirst.{round_long, round_first}
 
 module _ (graph : Graph) (order : List ℕ) (behind : IsBehind graph order) where
   -- what a number of the order reads is in it, before that number
-  before : (number other : ℕ) → is_among order number ≡ true → Reads graph number other → (is_among order other ≡ true) × (place_among order other < place_among order number)
+  before : (number other : ℕ) → is_among order number ≡ true → Reads graph number other
+      → (is_among order other ≡ true) × (place_among order other < place_among order number)
   before number other among reads =
       let at = at_place order number among in
       let front : is_among (take (place_among order number) order) other ≡ true =
@@ -21,12 +22,14 @@ module _ (graph : Graph) (order : List ℕ) (behind : IsBehind graph order) wher
       (front_among order (place_among order number) other front, front_position (λ (n : ℕ). n == other) order (place_among order number) front)
 
   -- along numbers of which each reads the next, places fall
-  falls : (number : ℕ) (numbers : List ℕ) (last : ℕ) → is_among order number ≡ true → AllZip (Reads graph) (number ∷ numbers) (numbers ++ last ∷ []) → place_among order last < place_among order number
+  falls : (number : ℕ) (numbers : List ℕ) (last : ℕ) → is_among order number ≡ true
+      → AllZip (Reads graph) (number ∷ numbers) (numbers ++ last ∷ []) → place_among order last < place_among order number
   falls number [] last among along = (before number last among along.0).1
   falls number (next ∷ numbers) last among along =
       let step = before number next among along.0 in omega (arith, step.1, falls next numbers last step.0 along.1)
 
-  round_from_it : (numbers : List ℕ) (number : ℕ) → 0 < length numbers → get_or numbers 0 0 ≡ number → is_among order number ≡ true → AllZip (Reads graph) numbers (turned numbers) → ⊥
+  round_from_it : (numbers : List ℕ) (number : ℕ) → 0 < length numbers → get_or numbers 0 0 ≡ number → is_among order number ≡ true
+      → AllZip (Reads graph) numbers (turned numbers) → ⊥
   round_from_it [] number some first among along = omega (arith, some)
   round_from_it (one ∷ numbers) number some first among along = omega (arith, falls one numbers one (ap (is_among order) first ∙ among) along)
 

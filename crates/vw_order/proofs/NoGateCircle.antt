@@ -40,7 +40,9 @@ module _ (flat : Flat) (order : List ℕ) (is_order : IsOrder flat.inputs flat.c
       front_position (λ (n : ℕ). n == other) order (place_among order number) gate_there
 
   -- along gates of which each reads the next, places fall
-  falls : (number : ℕ) (numbers : List ℕ) (last : ℕ) → AllZip (λ one next. gate_reads flat one next ≡ true) (number ∷ numbers) (numbers ++ last ∷ []) → place_among order last < place_among order number
+  falls : (number : ℕ) (numbers : List ℕ) (last : ℕ)
+      → AllZip (λ one next. gate_reads flat one next ≡ true) (number ∷ numbers) (numbers ++ last ∷ [])
+      → place_among order last < place_among order number
   falls number [] last along = before number last along.0
   falls number (next ∷ numbers) last along = omega (arith, before number next along.0, falls next numbers last along.1)
 

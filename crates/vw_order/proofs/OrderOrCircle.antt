@@ -31,7 +31,8 @@ left_place : (order : List ℕ) (reads : List (Option ℕ))
     → ((place : ℕ) × (read : ℕ) × (slice_get reads place ≡ Some (Some read)) × (is_among order read ≡ false)) ⊎ ((place read : ℕ) → slice_get reads place ≡ Some (Some read) → is_among order read ≡ true)
 left_place order [] = inr (λ place read at. absurd (none-some (Some read) at))
 left_place order (None ∷ reads) = ⊎_elim (λ found. inl (suc found.0, found.1, found.2, found.3)) (λ all. inr (later all)) (left_place order reads) where
-  later : ((place read : ℕ) → slice_get reads place ≡ Some (Some read) → is_among order read ≡ true) → (place read : ℕ) → slice_get (None ∷ reads) place ≡ Some (Some read) → is_among order read ≡ true
+  later : ((place read : ℕ) → slice_get reads place ≡ Some (Some read) → is_among order read ≡ true) → (place read : ℕ)
+      → slice_get (None ∷ reads) place ≡ Some (Some read) → is_among order read ≡ true
   later all zero read at = absurd (none-some read (same_Some None (Some read) at))
   later all (suc place) read at = all place read at
 left_place order (Some first ∷ reads) = ⊎_elim
@@ -39,7 +40,8 @@ left_place order (Some first ∷ reads) = ⊎_elim
     (λ left. inl (0, first, refl, left))
     (cases_Bool (is_among order first))
   where
-    later : is_among order first ≡ true → ((place read : ℕ) → slice_get reads place ≡ Some (Some read) → is_among order read ≡ true) → (place read : ℕ) → slice_get (Some first ∷ reads) place ≡ Some (Some read) → is_among order read ≡ true
+    later : is_among order first ≡ true → ((place read : ℕ) → slice_get reads place ≡ Some (Some read) → is_among order read ≡ true)
+        → (place read : ℕ) → slice_get (Some first ∷ reads) place ≡ Some (Some read) → is_among order read ≡ true
     later done all zero read at = ap (is_among order) (sym (same_Some first read (same_Some (Some first) (Some read) at))) ∙ done
     later done all (suc place) read at = all place read at
 
@@ -70,7 +72,8 @@ module _ (graph : Graph) (within : StaysWithin graph) where
   walk_short order stack last along = omega (arith, length-append stack (last ∷ []), once_short (stack ++ last ∷ []) graph.count along.once (λ number among. within.below number (along.counted number among)))
 
   -- a walk ends at a number that may come next, or closes a circle, or goes on
-  step : (order stack : List ℕ) (last : ℕ) → IsReadingChain order stack last → (Circle ⊎ ((number : ℕ) × IsNext order number)) ⊎ ((next : ℕ) × IsReadingChain order (stack ++ last ∷ []) next)
+  step : (order stack : List ℕ) (last : ℕ) → IsReadingChain order stack last
+      → (Circle ⊎ ((number : ℕ) × IsNext order number)) ⊎ ((next : ℕ) × IsReadingChain order (stack ++ last ∷ []) next)
   step order stack last along = ⊎_elim
       (λ found. ⊎_elim
       (λ met. inl (inl (round_from found.1 stack ++ last ∷ [], closes graph stack last found.1 along.once along.leads (found.0, found.2) met along.counted)))
@@ -79,7 +82,8 @@ module _ (graph : Graph) (within : StaysWithin graph) where
       (λ kids. inl (inr (last, record { counts = along.counted last (among_last stack last); left = along.left; kids = kids })))
       (left_place order (graph.reads last))
     where
-      on : (next : ℕ) → is_among (stack ++ last ∷ []) next ≡ false → is_among order next ≡ false → Reads graph last next → IsReadingChain order (stack ++ last ∷ []) next
+      on : (next : ℕ) → is_among (stack ++ last ∷ []) next ≡ false → is_among order next ≡ false → Reads graph last next
+          → IsReadingChain order (stack ++ last ∷ []) next
       on next new left reads = record {
         counted = λ number among. ⊎_elim (λ old. along.counted number old) (λ top. ap graph.counts (sym (among_one next number top)) ∙ within.read last reads.0 next (along.counted last (among_last stack last)) reads.1) (among_either (stack ++ last ∷ []) (next ∷ []) number among);
         once = once_push (stack ++ last ∷ []) next along.once new;
@@ -87,7 +91,8 @@ module _ (graph : Graph) (within : StaysWithin graph) where
         left = left;
       }
 
-  walk : (steps : ℕ) (order stack : List ℕ) (last : ℕ) → graph.count ≤ length stack + steps → IsReadingChain order stack last → Circle ⊎ ((number : ℕ) × IsNext order number)
+  walk : (steps : ℕ) (order stack : List ℕ) (last : ℕ) → graph.count ≤ length stack + steps → IsReadingChain order stack last
+      → Circle ⊎ ((number : ℕ) × IsNext order number)
   walk zero order stack last far along = absurd (omega (arith, far, walk_short order stack last along))
   walk (suc steps) order stack last far along =
       ⊎_elim (λ ended. ended) (λ further. walk steps order (stack ++ last ∷ []) further.0 (omega (arith, far, length-append stack (last ∷ []))) further.1) (step order stack last along)

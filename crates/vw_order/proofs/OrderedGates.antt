@@ -29,7 +29,8 @@ map_at_place f (first ∷ nets) (suc place) net at = map_at_place f nets place n
 module _ (flat : Flat) (order : List ℕ) (far : IsNumberOrder (gates flat) order) where
   -- a net that a gate of the order reads is an input's, a latch's, or that of a gate before it
   ready : (done : List ℕ) (number : ℕ) → ((place other : ℕ) → ReadsAt (gates flat) number place other → is_among done other ≡ true)
-      → (found : Option Cell) → slice_get flat.cells number ≡ found → is_gate found ≡ true → list_all (is_ready flat.inputs flat.cells done) (read_nets_at found) ≡ true
+      → (found : Option Cell) → slice_get flat.cells number ≡ found → is_gate found ≡ true
+      → list_all (is_ready flat.inputs flat.cells done) (read_nets_at found) ≡ true
   ready done number before None is gate = refl
   ready done number before (Some (Latch d init)) is gate = absurd (true≢false (sym gate))
   ready done number before (Some (Gate ins cover)) is gate = all_at (is_ready flat.inputs flat.cells done) ins net_ready where
@@ -38,7 +39,8 @@ module _ (flat : Flat) (order : List ℕ) (far : IsNumberOrder (gates flat) orde
         let fits : All (λ (n : ℕ). n < flat.inputs + length flat.cells) ins = (cell_fits (flat.inputs + length flat.cells) flat.cells number (Gate ins cover) flat.cells_fit is).1 in
         subst (λ (n : ℕ). n < flat.inputs + length flat.cells) (get_or_from_slice_get ins place net net at) (fits place net (slice_get_within ins place net at))
 
-    driven : (place net : ℕ) → slice_get ins place ≡ Some net → is_gate (slice_get flat.cells (net - flat.inputs)) ≡ true → nat_lt net flat.inputs ≡ false → is_among done (net - flat.inputs) ≡ true
+    driven : (place net : ℕ) → slice_get ins place ≡ Some net → is_gate (slice_get flat.cells (net - flat.inputs)) ≡ true
+        → nat_lt net flat.inputs ≡ false → is_among done (net - flat.inputs) ≡ true
     driven place net at gate_there past =
         let over = ltb-false net flat.inputs past in
         let same : flat.inputs + (net - flat.inputs) ≡ net = omega arith in
@@ -60,7 +62,8 @@ module _ (flat : Flat) (order : List ℕ) (far : IsNumberOrder (gates flat) orde
         (cases_Bool latch_there)))
         (cases_Bool (nat_lt net flat.inputs))
       where
-        no_latch_gate : nat_lt net flat.inputs ≡ false → net < flat.inputs + length flat.cells → is_latch (slice_get flat.cells (net - flat.inputs)) ≡ false → is_gate (slice_get flat.cells (net - flat.inputs)) ≡ true
+        no_latch_gate : nat_lt net flat.inputs ≡ false → net < flat.inputs + length flat.cells
+            → is_latch (slice_get flat.cells (net - flat.inputs)) ≡ false → is_gate (slice_get flat.cells (net - flat.inputs)) ≡ true
         no_latch_gate past below no_latch =
             let over = ltb-false net flat.inputs past in
             let within_there : net - flat.inputs < length flat.cells = omega arith in

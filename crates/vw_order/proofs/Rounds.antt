@@ -14,7 +14,8 @@ use Rattle.vw_order.proofs.Among.{among_one, among_right, once_part}
 
 module _ (graph : Graph) where
   -- one more, that the last one reads
-  pub IsReadChain-push : (stack : List ℕ) (last next : ℕ) → IsReadChain graph (stack ++ last ∷ []) → Reads graph last next → IsReadChain graph ((stack ++ last ∷ []) ++ next ∷ [])
+  pub IsReadChain-push : (stack : List ℕ) (last next : ℕ) → IsReadChain graph (stack ++ last ∷ []) → Reads graph last next
+      → IsReadChain graph ((stack ++ last ∷ []) ++ next ∷ [])
   IsReadChain-push [] last next leads reads = (reads, tt)
   IsReadChain-push (number ∷ []) last next leads reads = (leads.0, (reads, tt))
   IsReadChain-push (number ∷ second ∷ rest) last next leads reads = (leads.0, IsReadChain-push (second ∷ rest) last next leads.1 reads)
@@ -33,11 +34,13 @@ module _ (graph : Graph) where
   IsReadChain-back (number ∷ second ∷ rest) back leads = IsReadChain-back (second ∷ rest) back leads.1
 
   -- where the last one reads the first
-  round_on : (number : ℕ) (rest : List ℕ) (last first : ℕ) → IsReadChain graph (number ∷ (rest ++ last ∷ [])) → Reads graph last first → AllZip (Reads graph) (number ∷ (rest ++ last ∷ [])) ((rest ++ last ∷ []) ++ first ∷ [])
+  round_on : (number : ℕ) (rest : List ℕ) (last first : ℕ) → IsReadChain graph (number ∷ (rest ++ last ∷ [])) → Reads graph last first
+      → AllZip (Reads graph) (number ∷ (rest ++ last ∷ [])) ((rest ++ last ∷ []) ++ first ∷ [])
   round_on number [] last first leads reads = (leads.0, (reads, tt))
   round_on number (next ∷ rest) last first leads reads = (leads.0, round_on next rest last first leads.1 reads)
 
-  pub IsReadChain-round : (stack : List ℕ) (last first : ℕ) → (further : List ℕ) × (stack ++ last ∷ [] ≡ first ∷ further) → IsReadChain graph (stack ++ last ∷ []) → Reads graph last first
+  pub IsReadChain-round : (stack : List ℕ) (last first : ℕ) → (further : List ℕ) × (stack ++ last ∷ [] ≡ first ∷ further)
+      → IsReadChain graph (stack ++ last ∷ []) → Reads graph last first
       → AllZip (Reads graph) (stack ++ last ∷ []) (turned (stack ++ last ∷ []))
   IsReadChain-round [] last first begins leads reads =
       let same : last ≡ first = cc (begins.1) in (subst (λ (n : ℕ). Reads graph last n) (sym same) reads, tt)
@@ -49,11 +52,13 @@ abbrev pub Begins : ℕ → ℕ → List ℕ → List ℕ → Type 0
 Begins number last stack from =
     (before : List ℕ) × (stack ++ last ∷ [] ≡ before ++ (from ++ last ∷ [])) × ((further : List ℕ) × (from ++ last ∷ [] ≡ number ∷ further))
 
-begins_by : (number last first : ℕ) (stack : List ℕ) (is_it : Bool) → (first == number) ≡ is_it → (is_it ≡ true) ⊎ Begins number last stack (round_from number stack)
+begins_by : (number last first : ℕ) (stack : List ℕ) (is_it : Bool) → (first == number) ≡ is_it
+    → (is_it ≡ true) ⊎ Begins number last stack (round_from number stack)
     → Begins number last (first ∷ stack) (drop (cond (not is_it) (1 + position_or_len (λ other. other == number) stack) 0) (first ∷ stack))
 begins_by number last first stack true is rest = ([], refl, (stack ++ last ∷ [], ap (λ (n : ℕ). n ∷ (stack ++ last ∷ [])) (eqb-true first number is)))
 begins_by number last first stack false is rest = ⊎_elim (λ wrong. absurd (true≢false (sym wrong))) later rest where
-  later : Begins number last stack (round_from number stack) → Begins number last (first ∷ stack) (drop (1 + position_or_len (λ other. other == number) stack) (first ∷ stack))
+  later : Begins number last stack (round_from number stack)
+      → Begins number last (first ∷ stack) (drop (1 + position_or_len (λ other. other == number) stack) (first ∷ stack))
   later begins =
       let one : suc (position_or_len (λ other. other == number) stack) ≡ 1 + position_or_len (λ other. other == number) stack = omega arith in
       subst (λ (n : ℕ). Begins number last (first ∷ stack) (drop n (first ∷ stack))) one
@@ -66,7 +71,8 @@ round_begins number last (first ∷ stack) among =
     (⊎_elim (λ here. inl here) (λ there. inr (round_begins number last stack there)) (or_cases (first == number) (is_among (stack ++ last ∷ []) number) among))
 
 -- where the last one reads one that is among them, they close a circle
-pub closes : (graph : Graph) (stack : List ℕ) (last next : ℕ) → IsDistinct eqb (stack ++ last ∷ []) → IsReadChain graph (stack ++ last ∷ []) → Reads graph last next → is_among (stack ++ last ∷ []) next ≡ true
+pub closes : (graph : Graph) (stack : List ℕ) (last next : ℕ) → IsDistinct eqb (stack ++ last ∷ []) → IsReadChain graph (stack ++ last ∷ [])
+    → Reads graph last next → is_among (stack ++ last ∷ []) next ≡ true
     → ((number : ℕ) → is_among (stack ++ last ∷ []) number ≡ true → graph.counts number ≡ true) → IsNumberCircle graph (round_from next stack ++ last ∷ [])
 closes graph stack last next once leads reads among counted =
     let cut = round_begins next last stack among in
@@ -83,7 +89,8 @@ turn_once : {A : Type 0} → (R : A → A → Type 0) (x : A) (xs : List A) → 
 turn_once R x [] along = along
 turn_once R x (y ∷ ys) along = AllZip-push R (y ∷ ys) (ys ++ x ∷ []) x y along.1 along.0
 
-pub turns : {A : Type 0} → (R : A → A → Type 0) (start : ℕ) (circle : List A) → start ≤ length circle → AllZip R circle (turned circle) → AllZip R (drop start circle ++ take start circle) (turned (drop start circle ++ take start circle))
+pub turns : {A : Type 0} → (R : A → A → Type 0) (start : ℕ) (circle : List A) → start ≤ length circle → AllZip R circle (turned circle)
+    → AllZip R (drop start circle ++ take start circle) (turned (drop start circle ++ take start circle))
 turns {A = A} R zero circle within along = subst (λ (l : List A). AllZip R l (turned l)) (sym (append-nil circle)) along
 turns {A = A} R (suc start) [] within along = absurd (omega arith)
 turns {A = A} R (suc start) (x ∷ xs) within along =

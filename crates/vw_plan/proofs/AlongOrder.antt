@@ -66,7 +66,8 @@ module _ (ordered : Ordered) (P : ℕ → ℕ → Type 0) (later : (from to net 
       ⊎_elim if_input if_driven (or_cases (nat_lt net inputs) (is_latch cell || is_among done (net - inputs)) ready)
 
   -- the gate at a place of the order has it one round after the gates before it
-  by_place : (place : ℕ) → place < length order → Have (suc place) (take place order) → (net : ℕ) → get_or order place 0 ≡ net - inputs → P (suc (suc place)) net
+  by_place : (place : ℕ) → place < length order → Have (suc place) (take place order) → (net : ℕ) → get_or order place 0 ≡ net - inputs
+      → P (suc (suc place)) net
   by_place place within before net here =
       let is_done = is_ready inputs cells (take place order) in
       let reads = read_nets_at (slice_get cells (net - inputs)) in

@@ -39,7 +39,8 @@ greatest_attained f P (first ∷ nets) all =
     let if_later = λ (less : f first < greatest (map f nets)). λ (found : Attained f P nets (greatest (map f nets))). let got : Goal = inr (record { net = found.net; among = rw found.among (or-true (eqb first found.net)); is = omega (arith, found.is); holds = found.holds }) in got in
     ⊎_elim (λ less. ⊎_elim if_none (if_later less) (greatest_attained f P nets (All-tail P first nets all))) if_first (cases_lt (f first) (greatest (map f nets)))
 
-attained_read : (f : ℕ → ℕ) (P : ℕ → Type 0) (cell : Option Cell) → All P (gate_inputs cell) → (greatest_read f cell ≡ 0) ⊎ Attained f P (gate_inputs cell) (greatest_read f cell)
+attained_read : (f : ℕ → ℕ) (P : ℕ → Type 0) (cell : Option Cell) → All P (gate_inputs cell)
+    → (greatest_read f cell ≡ 0) ⊎ Attained f P (gate_inputs cell) (greatest_read f cell)
 attained_read f P None all = inl refl
 attained_read f P (Some (Gate ins cover)) all = greatest_attained f P ins all
 attained_read f P (Some (Latch d init)) all = inl refl
@@ -100,7 +101,9 @@ module _ (ordered : Ordered) (chip_of : List ℕ) where
   read_below net read is_read = omega (arith, depth-by_driver net, greatest_read-least (depth_read net) (driving_cell ordered.flat net) read is_read)
 
   -- so it is deeper than each inlet
-  inlet_below : (net : ℕ) (nets : List ℕ) (end inlet : ℕ) → IsChainBack ordered.flat chip_of net nets end → is_read_by ordered.flat end inlet ≡ true → (node_of ordered.flat chip_of inlet ≡ node_of ordered.flat chip_of end → ⊥) → depth ordered.flat chip_of inlet + 1 ≤ depth ordered.flat chip_of net
+  inlet_below : (net : ℕ) (nets : List ℕ) (end inlet : ℕ) → IsChainBack ordered.flat chip_of net nets end
+      → is_read_by ordered.flat end inlet ≡ true → (node_of ordered.flat chip_of inlet ≡ node_of ordered.flat chip_of end → ⊥)
+      → depth ordered.flat chip_of inlet + 1 ≤ depth ordered.flat chip_of net
   inlet_below net [] end inlet way is_read crosses =
       let there : depth ordered.flat chip_of net ≡ depth ordered.flat chip_of end = ap (depth ordered.flat chip_of) way in
       let one : crossing ordered.flat chip_of end inlet ≡ 1 = rw (ne_eqb _ _ crosses) refl in
@@ -112,7 +115,9 @@ module _ (ordered : Ordered) (chip_of : List ℕ) where
   Reached net = (depth ordered.flat chip_of net ≡ 0) ⊎ ((inlet : ℕ) × IsInlet ordered.flat chip_of net inlet × (depth ordered.flat chip_of net ≡ depth ordered.flat chip_of inlet + 1))
 
   -- as the net that gives the greatest depth comes from another node, or has an inlet itself
-  reached_by : (net : ℕ) → Attained (depth_read net) Reached (gate_inputs (driving_cell ordered.flat net)) (greatest_read (depth_read net) (driving_cell ordered.flat net)) → Reached net
+  reached_by : (net : ℕ)
+      → Attained (depth_read net) Reached (gate_inputs (driving_cell ordered.flat net)) (greatest_read (depth_read net) (driving_cell ordered.flat net))
+      → Reached net
   reached_by net found =
       let read = found.net in
       let is : depth ordered.flat chip_of net ≡ depth_read net read = depth-by_driver net ∙ found.is in

@@ -18,7 +18,8 @@ module _ (chips : ℕ) (few : chips ≤ 32) (links : List Link)
 
   numbers_differ : IsDistinct eqb (map ends_number links)
   numbers_differ = IsDistinct-from_apart eqb (map ends_number links) apart where
-    apart : (i j default : ℕ) → i < j → j < length (map ends_number links) → eqb (get_or (map ends_number links) i default) (get_or (map ends_number links) j default) ≡ false
+    apart : (i j default : ℕ) → i < j → j < length (map ends_number links)
+        → eqb (get_or (map ends_number links) i default) (get_or (map ends_number links) j default) ≡ false
     apart i j default before within =
         let none : Link = record { from = 0; to = 0; width = 0; delay = 0 } in
         let size : length (map ends_number links) ≡ length links = length-map links ends_number in
@@ -33,7 +34,8 @@ module _ (chips : ℕ) (few : chips ≤ 32) (links : List Link)
         let differ = λ (same : get_or (map ends_number links) i default ≡ get_or (map ends_number links) j default). let numbers : ends_number one ≡ ends_number other = sym at_one ∙ same ∙ at_other in let froms : one.from ≡ other.from = omega arith in let tos : one.to ≡ other.to = omega arith in once i j none before late (froms, tos) in
         ne_eqb (get_or (map ends_number links) i default) (get_or (map ends_number links) j default) differ
 
-  numbers_small : (all : List Link) → All (λ link. (link.from ≤ chips) × (link.to ≤ chips)) all → (number : ℕ) → list_any (eqb number) (map ends_number all) ≡ true → number < 1089
+  numbers_small : (all : List Link) → All (λ link. (link.from ≤ chips) × (link.to ≤ chips)) all → (number : ℕ)
+      → list_any (eqb number) (map ends_number all) ≡ true → number < 1089
   numbers_small [] are number among = absurd (true≢false (sym among))
   numbers_small (link ∷ rest) are number among =
       let here = All-head (λ (other : Link). (other.from ≤ chips) × (other.to ≤ chips)) link rest are in

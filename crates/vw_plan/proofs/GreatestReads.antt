@@ -9,7 +9,8 @@ use Rattle.vw_net.proofs.DrivenValues.{map_agree}
 use Rattle.vw_plan.specs.Nets.{greatest_read}
 
 -- it depends on the nets that the gate reads, and on no other
-pub greatest_read-agree : (one other : ℕ → ℕ) (cell : Option Cell) → All (λ net. one net ≡ other net) (gate_inputs cell) → greatest_read one cell ≡ greatest_read other cell
+pub greatest_read-agree : (one other : ℕ → ℕ) (cell : Option Cell) → All (λ net. one net ≡ other net) (gate_inputs cell)
+    → greatest_read one cell ≡ greatest_read other cell
 greatest_read-agree one other None agree = refl
 greatest_read-agree one other (Some (Gate ins cover)) agree = ap greatest (map_agree one other ins agree)
 greatest_read-agree one other (Some (Latch d init)) agree = refl

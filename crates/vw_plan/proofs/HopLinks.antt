@@ -45,7 +45,8 @@ hop_link board hop pin =
     }
 
 -- and no other
-pub one_link : (board : Board) (hop : Hop) (own : HopLink board hop) (number : ℕ) (link : Link) → slice_get board.links number ≡ Some link → carries hop link ≡ true → number ≡ own.number
+pub one_link : (board : Board) (hop : Hop) (own : HopLink board hop) (number : ℕ) (link : Link) → slice_get board.links number ≡ Some link
+    → carries hop link ≡ true → number ≡ own.number
 one_link board hop own number link there carried = one_number board number own.number link own.link there own.there (same_ends hop link own.link carried own.carried)
 
 -- a hop of a wire of a sound plan has a link, and its bit arrives before the period ends
@@ -55,7 +56,8 @@ pub record HopFacts (planned : PlannedBoard) (hop : Hop) : Type 0 where
   pub sent : hop.at < planned.plan.period
 
 -- each hop of a wire has these
-pub hop_facts : (planned : PlannedBoard) → IsSound planned → (number place : ℕ) (wire : Wire) (hop : Hop) → slice_get planned.plan.wires number ≡ Some wire → slice_get wire.hops place ≡ Some hop → HopFacts planned hop
+pub hop_facts : (planned : PlannedBoard) → IsSound planned → (number place : ℕ) (wire : Wire) (hop : Hop)
+    → slice_get planned.plan.wires number ≡ Some wire → slice_get wire.hops place ≡ Some hop → HopFacts planned hop
 hop_facts planned sound number place wire hop there is =
     let routed = at_place (IsRouted planned) planned.plan.wires number wire sound.routes there in
     let rising = at_place (IsRising planned) planned.plan.wires number wire sound.rising_microcycles there in

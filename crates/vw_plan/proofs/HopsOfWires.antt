@@ -21,14 +21,16 @@ leads_first from to (first ∷ hops) hop leads is =
     let same : first ≡ hop = cc in
     ap (λ (one : Hop). one.from) (sym same) ∙ eqb-true first.from from (and_parts (first.from == from) (leads_to first.to hops to) leads).0
 
-leads_next : (from to : ℕ) (hops : List Hop) (place : ℕ) (hop next : Hop) → leads_to from hops to ≡ true → slice_get hops place ≡ Some hop → slice_get hops (suc place) ≡ Some next → next.from ≡ hop.to
+leads_next : (from to : ℕ) (hops : List Hop) (place : ℕ) (hop next : Hop) → leads_to from hops to ≡ true → slice_get hops place ≡ Some hop
+    → slice_get hops (suc place) ≡ Some next → next.from ≡ hop.to
 leads_next from to [] place hop next leads is after = cc
 leads_next from to (first ∷ hops) zero hop next leads is after =
     let same : first ≡ hop = cc in
     leads_first first.to to hops next (and_parts (first.from == from) (leads_to first.to hops to) leads).1 after ∙ ap (λ (one : Hop). one.to) same
 leads_next from to (first ∷ hops) (suc place) hop next leads is after = leads_next first.to to hops place hop next (and_parts (first.from == from) (leads_to first.to hops to) leads).1 is after
 
-leads_last : (from to : ℕ) (hops : List Hop) (place : ℕ) (hop : Hop) → leads_to from hops to ≡ true → slice_get hops place ≡ Some hop → suc place ≡ length hops → hop.to ≡ to
+leads_last : (from to : ℕ) (hops : List Hop) (place : ℕ) (hop : Hop) → leads_to from hops to ≡ true → slice_get hops place ≡ Some hop
+    → suc place ≡ length hops → hop.to ≡ to
 leads_last from to [] place hop leads is last = cc
 leads_last from to (first ∷ []) zero hop leads is last =
     let same : first ≡ hop = cc in
@@ -36,7 +38,8 @@ leads_last from to (first ∷ []) zero hop leads is last =
 leads_last from to (first ∷ second ∷ hops) zero hop leads is last = absurd (omega (arith, last))
 leads_last from to (first ∷ hops) (suc place) hop leads is last = leads_last first.to to hops place hop (and_parts (first.from == from) (leads_to first.to hops to) leads).1 is (omega (arith, last))
 
-rises_next : (links : List Link) (hops : List Hop) (place : ℕ) (hop next : Hop) → rises links hops ≡ true → slice_get hops place ≡ Some hop → slice_get hops (suc place) ≡ Some next → arrival links hop < next.at
+rises_next : (links : List Link) (hops : List Hop) (place : ℕ) (hop next : Hop) → rises links hops ≡ true → slice_get hops place ≡ Some hop
+    → slice_get hops (suc place) ≡ Some next → arrival links hop < next.at
 rises_next links [] place hop next rise is after = cc
 rises_next links (first ∷ []) place hop next rise is after = cc
 rises_next links (first ∷ second ∷ hops) zero hop next rise is after =
@@ -46,7 +49,8 @@ rises_next links (first ∷ second ∷ hops) zero hop next rise is after =
     omega (arith, before, ap (arrival links) same, ap (λ (one : Hop). one.at) then)
 rises_next links (first ∷ second ∷ hops) (suc place) hop next rise is after = rises_next links (second ∷ hops) place hop next (and_parts (nat_lt (arrival links first) second.at) (rises links (second ∷ hops)) rise).1 is after
 
-pub after_last-at : (links : List Link) (hops : List Hop) (place : ℕ) (hop : Hop) → slice_get hops place ≡ Some hop → suc place ≡ length hops → after_last links hops ≡ arrival links hop + 1
+pub after_last-at : (links : List Link) (hops : List Hop) (place : ℕ) (hop : Hop) → slice_get hops place ≡ Some hop
+    → suc place ≡ length hops → after_last links hops ≡ arrival links hop + 1
 after_last-at links [] place hop is last = cc
 after_last-at links (first ∷ []) zero hop is last = let same : first ≡ hop = cc in ap (λ (one : Hop). arrival links one + 1) same
 after_last-at links (first ∷ []) (suc place) hop is last = cc

@@ -42,7 +42,8 @@ module _ (planned : PlannedBoard) (node : ℕ) where
       (every_net ordered HasOneLead (λ from to net. settled_later (λ level. level_lead level planned node net) from to) reads_settled net).same level (length cells + 1) (omega arith) (omega arith)
 
   -- the lead of a net is that of what drives it at its own node, and elsewhere one past its arrival
-  pub lead-by_driver : (net : ℕ) → lead planned node net ≡ (if eqb (home planned net) node then greatest_read (lead planned node) (driving_cell planned.ordered.flat net) else brought_at planned node net)
+  pub lead-by_driver : (net : ℕ)
+      → lead planned node net ≡ (if eqb (home planned net) node then greatest_read (lead planned node) (driving_cell planned.ordered.flat net) else brought_at planned node net)
   lead-by_driver net =
       let level = length cells + 1 in
       let above = level_lead-past_cells (suc level) net (omega arith) in

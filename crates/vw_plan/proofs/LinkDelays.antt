@@ -20,7 +20,8 @@ same_ends hop link other first second =
 abbrev IsTimely : Link → Type 0
 IsTimely link = (1 ≤ link.delay) × (link.delay ≤ 16)
 
-its_delay : (links : List Link) (number : ℕ) (link : Link) (hop : Hop) → AllPairs (λ one other. ¬ (HaveSameEnds one other)) links → All IsTimely links → slice_get links number ≡ Some link → carries hop link ≡ true → lag links hop + 1 ≡ link.delay
+its_delay : (links : List Link) (number : ℕ) (link : Link) (hop : Hop) → AllPairs (λ one other. ¬ (HaveSameEnds one other)) links
+    → All IsTimely links → slice_get links number ≡ Some link → carries hop link ≡ true → lag links hop + 1 ≡ link.delay
 its_delay [] number link hop once timely is carried = cc
 its_delay (first ∷ links) zero link hop once timely is carried =
     let same : first ≡ link = cc in
@@ -37,13 +38,16 @@ its_delay (first ∷ links) (suc number) link hop once timely is carried =
     let whole : lag (first ∷ links) hop + 1 ≡ link.delay = rw apart rest in whole in
     ⊎_elim if_here if_later (cases_Bool (carries hop first))
 
-pub its_lag : (board : Board) (number : ℕ) (link : Link) (hop : Hop) → slice_get board.links number ≡ Some link → carries hop link ≡ true → lag board.links hop + 1 ≡ link.delay
+pub its_lag : (board : Board) (number : ℕ) (link : Link) (hop : Hop) → slice_get board.links number ≡ Some link → carries hop link ≡ true
+    → lag board.links hop + 1 ≡ link.delay
 its_lag board number link hop is carried = its_delay board.links number link hop board.linked.separate.once board.linked.separate.timely is carried
 
-pub arrives : (board : Board) (number : ℕ) (link : Link) (hop : Hop) → slice_get board.links number ≡ Some link → carries hop link ≡ true → arrival board.links hop + 1 ≡ hop.at + link.delay
+pub arrives : (board : Board) (number : ℕ) (link : Link) (hop : Hop) → slice_get board.links number ≡ Some link → carries hop link ≡ true
+    → arrival board.links hop + 1 ≡ hop.at + link.delay
 arrives board number link hop is carried = omega (arith, its_lag board number link hop is carried)
 
-pub one_number : (board : Board) (one other : ℕ) (link second : Link) → slice_get board.links one ≡ Some link → slice_get board.links other ≡ Some second → HaveSameEnds link second → one ≡ other
+pub one_number : (board : Board) (one other : ℕ) (link second : Link) → slice_get board.links one ≡ Some link
+    → slice_get board.links other ≡ Some second → HaveSameEnds link second → one ≡ other
 one_number board one other link second is its ends = ⊎_elim (λ same. same) (λ apart. ⊎_elim if_less if_more apart) (cases_order one other) where
   at_one : get_or board.links one link ≡ link
   at_one = get_or_from_slice_get board.links one link link is

@@ -10,7 +10,8 @@ use Rattle.vw_net.specs.Cells.{IsWellFormed, read_nets}
 use Rattle.vw_net.specs.Order.{is_among}
 use Rattle.vw_plan.specs.Nets.{is_needed, is_read_at, node_of}
 
-read_net : (chips : List ℕ) (cells : List Cell) (net node past : ℕ) → All (IsWellFormed past) cells → list_any (λ (placed : ℕ × Cell). eqb placed.0 node && is_among (read_nets placed.1) net) (zip chips cells) ≡ true → net < past
+read_net : (chips : List ℕ) (cells : List Cell) (net node past : ℕ) → All (IsWellFormed past) cells
+    → list_any (λ (placed : ℕ × Cell). eqb placed.0 node && is_among (read_nets placed.1) net) (zip chips cells) ≡ true → net < past
 read_net [] cells net node past fit reads = absurd (true≢false (sym reads))
 read_net (chip ∷ chips) [] net node past fit reads = absurd (true≢false (sym reads))
 read_net (chip ∷ chips) (cell ∷ cells) net node past fit reads =

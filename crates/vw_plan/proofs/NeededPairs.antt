@@ -112,7 +112,8 @@ reads_none [] net past below is_past = refl
 reads_none (first ∷ nets) net past below is_past =
     or_from _ _ (ne_eqb first net (λ is. omega (arith, All-head (λ other. other < past) first nets below))) (reads_none nets net past (All-tail (λ other. other < past) first nets below) is_past)
 
-no_cell_reads : (chips : List ℕ) (cells : List Cell) (net node past : ℕ) → All (IsWellFormed past) cells → past ≤ net → list_any (λ (placed : ℕ × Cell). eqb placed.0 node && is_among (read_nets placed.1) net) (zip chips cells) ≡ false
+no_cell_reads : (chips : List ℕ) (cells : List Cell) (net node past : ℕ) → All (IsWellFormed past) cells → past ≤ net
+    → list_any (λ (placed : ℕ × Cell). eqb placed.0 node && is_among (read_nets placed.1) net) (zip chips cells) ≡ false
 no_cell_reads [] cells net node past fit is_past = refl
 no_cell_reads (chip ∷ chips) [] net node past fit is_past = refl
 no_cell_reads (chip ∷ chips) (cell ∷ cells) net node past fit is_past =
@@ -126,7 +127,8 @@ past_net flat chip_of net node past =
     and_right (not (eqb (node_of flat chip_of net) node)) _ (or_from _ _ by_cells (and_right (eqb node 0) _ by_host))
 
 -- no cell is on a node past the greatest chip
-no_chip_there : (chips : List ℕ) (cells : List Cell) (net node : ℕ) → greatest chips < node → list_any (λ (placed : ℕ × Cell). eqb placed.0 node && is_among (read_nets placed.1) net) (zip chips cells) ≡ false
+no_chip_there : (chips : List ℕ) (cells : List Cell) (net node : ℕ) → greatest chips < node
+    → list_any (λ (placed : ℕ × Cell). eqb placed.0 node && is_among (read_nets placed.1) net) (zip chips cells) ≡ false
 no_chip_there [] cells net node past = refl
 no_chip_there (chip ∷ chips) [] net node past = refl
 no_chip_there (chip ∷ chips) (cell ∷ cells) net node past =
@@ -218,7 +220,8 @@ less_by_node : (net node other : ℕ) → node < other → need_cmp (need_of net
 less_by_node net node other below = rw (le-ltb net net (omega arith), eq-eqb net net refl, lt-ltb node other below) refl
 
 -- the nodes of a net rise
-nodes_after : (net node : ℕ) (test : ℕ → Bool) (from many : ℕ) → node < from → AllByRecursion (λ other. need_cmp (need_of net node) other ≡ Less) (map (need_of net) (filter test (range_with_len from many)))
+nodes_after : (net node : ℕ) (test : ℕ → Bool) (from many : ℕ) → node < from
+    → AllByRecursion (λ other. need_cmp (need_of net node) other ≡ Less) (map (need_of net) (filter test (range_with_len from many)))
 nodes_after net node test from zero below = tt
 nodes_after net node test from (suc many) below =
     let rest = nodes_after net node test (from + 1) many (omega arith) in
@@ -238,26 +241,34 @@ nodes_rise net test from (suc many) =
     ]
 
 -- pairs of a net before pairs of later nets
-before_later : (net node : ℕ) (nodes : List ℕ) (later : List Need) → AllByRecursion (λ other. need_cmp (need_of net node) other ≡ Less) (map (need_of net) nodes) → AllByRecursion (λ other. net < other.net) later → AllByRecursion (λ other. need_cmp (need_of net node) other ≡ Less) (map (need_of net) nodes ++ later)
+before_later : (net node : ℕ) (nodes : List ℕ) (later : List Need)
+    → AllByRecursion (λ other. need_cmp (need_of net node) other ≡ Less) (map (need_of net) nodes)
+    → AllByRecursion (λ other. net < other.net) later
+    → AllByRecursion (λ other. need_cmp (need_of net node) other ≡ Less) (map (need_of net) nodes ++ later)
 before_later net node [] [] own after = tt
 before_later net node [] (first ∷ later) own after = (less_by_net (need_of net node) first after.0, before_later net node [] later tt after.1)
 before_later net node (first ∷ nodes) later own after = (own.0, before_later net node nodes later own.1 after)
 
-rise_on : (net : ℕ) (nodes : List ℕ) (later : List Need) → IsStrictlySortedBy need_cmp (map (need_of net) nodes) → IsStrictlySortedBy need_cmp later → AllByRecursion (λ other. net < other.net) later → IsStrictlySortedBy need_cmp (map (need_of net) nodes ++ later)
+rise_on : (net : ℕ) (nodes : List ℕ) (later : List Need) → IsStrictlySortedBy need_cmp (map (need_of net) nodes)
+    → IsStrictlySortedBy need_cmp later → AllByRecursion (λ other. net < other.net) later
+    → IsStrictlySortedBy need_cmp (map (need_of net) nodes ++ later)
 unfolding IsStrictlySortedBy
 rise_on net [] later own rises after = rises
 rise_on net (first ∷ nodes) later own rises after = (before_later net first nodes later own.0 after, rise_on net nodes later own.1 rises after)
 
-net_before : (net later : ℕ) → net < later → (nodes : List ℕ) (others : List Need) → AllByRecursion (λ other. net < other.net) others → AllByRecursion (λ other. net < other.net) (map (need_of later) nodes ++ others)
+net_before : (net later : ℕ) → net < later → (nodes : List ℕ) (others : List Need) → AllByRecursion (λ other. net < other.net) others
+    → AllByRecursion (λ other. net < other.net) (map (need_of later) nodes ++ others)
 net_before net later below [] others all = all
 net_before net later below (node ∷ nodes) others all = (below, net_before net later below nodes others all)
 
 -- each pair of a range of nets is of a net that is none below its first
-nets_after : (nodes_of : ℕ → List ℕ) (net from many : ℕ) → net < from → AllByRecursion (λ other. net < other.net) (flat_map (λ other. map (need_of other) (nodes_of other)) (range_with_len from many))
+nets_after : (nodes_of : ℕ → List ℕ) (net from many : ℕ) → net < from
+    → AllByRecursion (λ other. net < other.net) (flat_map (λ other. map (need_of other) (nodes_of other)) (range_with_len from many))
 nets_after nodes_of net from zero below = tt
 nets_after nodes_of net from (suc many) below = net_before net from below (nodes_of from) _ (nets_after nodes_of net (from + 1) many (omega arith))
 
-pairs_rise : (test : ℕ → ℕ → Bool) (nodes from many : ℕ) → IsStrictlySortedBy need_cmp (flat_map (λ net. map (need_of net) (filter (test net) (range_with_len 0 nodes))) (range_with_len from many))
+pairs_rise : (test : ℕ → ℕ → Bool) (nodes from many : ℕ)
+    → IsStrictlySortedBy need_cmp (flat_map (λ net. map (need_of net) (filter (test net) (range_with_len 0 nodes))) (range_with_len from many))
 unfolding IsStrictlySortedBy
 pairs_rise test nodes from zero = tt
 pairs_rise test nodes from (suc many) = rise_on from (filter (test from) (range_with_len 0 nodes)) _ (nodes_rise from (test from) 0 nodes) (pairs_rise test nodes (from + 1) many) (nets_after (λ net. filter (test net) (range_with_len 0 nodes)) from (from + 1) many (omega arith))
@@ -268,7 +279,9 @@ unfolding needed_pairs
 needed_pairs-sorted flat chip_of = pairs_rise (is_needed flat chip_of) (greatest chip_of + 1) 0 (flat.inputs + length flat.cells)
 
 -- as tests on the parts
-by_parts : (net same_net node same_node : Bool) → ordering_then (cond net Less (cond same_net Equal Greater)) (cond node Less (cond same_node Equal Greater)) ≡ Less → (net || (same_net && node)) ≡ true
+by_parts : (net same_net node same_node : Bool)
+    → ordering_then (cond net Less (cond same_net Equal Greater)) (cond node Less (cond same_node Equal Greater)) ≡ Less
+    → (net || (same_net && node)) ≡ true
 by_parts true same_net node same_node less = refl
 by_parts false true true same_node less = refl
 by_parts false true false true less = cc

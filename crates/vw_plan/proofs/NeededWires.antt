@@ -31,7 +31,8 @@ wire_needed planned sound place default within =
     ⊎_elim (λ is. is) if_not (cases_Bool needed)
 
 -- so the net is one of the netlist
-pub wires_fine : (planned : PlannedBoard) → IsSound planned → All (λ wire. wire.net < planned.ordered.flat.inputs + length planned.ordered.flat.cells) planned.plan.wires
+pub wires_fine : (planned : PlannedBoard) → IsSound planned
+    → All (λ wire. wire.net < planned.ordered.flat.inputs + length planned.ordered.flat.cells) planned.plan.wires
 wires_fine planned sound place default within =
     let wire = get_or planned.plan.wires place default in
     needed_net planned.ordered.flat planned.plan.chip_of wire.net wire.to (wire_needed planned sound place default within)
@@ -47,7 +48,8 @@ pub record WireFor (planned : PlannedBoard) (net node : ℕ) : Type 0 where
   pub to : wire.to ≡ node
 
 -- there is such a wire for each needed pair
-pub needed_wire : (planned : PlannedBoard) → IsSound planned → (net node : ℕ) → is_needed planned.ordered.flat planned.plan.chip_of net node ≡ true → WireFor planned net node
+pub needed_wire : (planned : PlannedBoard) → IsSound planned → (net node : ℕ)
+    → is_needed planned.ordered.flat planned.plan.chip_of net node ≡ true → WireFor planned net node
 needed_wire planned sound net node needed =
     let one : count_by (brings net node) planned.plan.wires ≡ 1 = sound.one_wire_for_each_need net node ∙ ap (λ (is : Bool). cond is 1 0) needed in
     let found = from_any (brings net node) planned.plan.wires (some_counted (brings net node) planned.plan.wires (omega (arith, one))) in
@@ -55,13 +57,15 @@ needed_wire planned sound net node needed =
     record { number = found.1.0; wire = found.0; there = found.1.1; brought = eqb-true found.0.net net parts.0; to = eqb-true found.0.to node parts.1 }
 
 -- what a cell reads is of its own node, or a wire brings it there
-pub read_own_or_brought : (planned : PlannedBoard) → IsSound planned → (number net : ℕ) (cell : Cell) → slice_get planned.ordered.flat.cells number ≡ Some cell → is_among (read_nets cell) net ≡ true
+pub read_own_or_brought : (planned : PlannedBoard) → IsSound planned → (number net : ℕ) (cell : Cell)
+    → slice_get planned.ordered.flat.cells number ≡ Some cell → is_among (read_nets cell) net ≡ true
     → (home planned net ≡ slice_index planned.plan.chip_of number) ⊎ WireFor planned net (slice_index planned.plan.chip_of number)
 read_own_or_brought planned sound number net cell is reads =
     let node = slice_index planned.plan.chip_of number in
     ⊎_elim (λ own. inl own) (λ needed. inr (needed_wire planned sound net node needed)) (read_or_needed planned.ordered.flat planned.plan.chip_of number net cell sound.one_chip_each.each is reads)
 
 -- what an output has is of the host, or a wire brings it there
-pub output_own_or_brought : (planned : PlannedBoard) → IsSound planned → (net : ℕ) → is_among planned.ordered.flat.outputs net ≡ true → (home planned net ≡ 0) ⊎ WireFor planned net 0
+pub output_own_or_brought : (planned : PlannedBoard) → IsSound planned → (net : ℕ) → is_among planned.ordered.flat.outputs net ≡ true
+    → (home planned net ≡ 0) ⊎ WireFor planned net 0
 output_own_or_brought planned sound net shown =
     ⊎_elim (λ own. inl own) (λ needed. inr (needed_wire planned sound net 0 needed)) (output_or_needed planned.ordered.flat planned.plan.chip_of net shown)

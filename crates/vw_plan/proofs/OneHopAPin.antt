@@ -24,7 +24,9 @@ share_both hop one other first second =
     (and_from (one.from == other.from) (one.to == other.to) (same hop.from one.from other.from p_ends.0 q_ends.0) (same hop.to one.to other.to p_ends.1 q_ends.1))
     (and_from (one.pin == other.pin) (one.at == other.at) (same hop.pin one.pin other.pin p_slot.0 q_slot.0) (same hop.at one.at other.at p_slot.1 q_slot.1))
 
-none_counted : (hop : Hop) (hops : List Hop) → ((place : ℕ) (default : Hop) → place < length hops → share_pin hop (get_or hops place default) ≡ false) → count_by (share_pin hop) hops ≡ 0
+none_counted : (hop : Hop) (hops : List Hop)
+    → ((place : ℕ) (default : Hop) → place < length hops → share_pin hop (get_or hops place default) ≡ false)
+    → count_by (share_pin hop) hops ≡ 0
 none_counted hop [] none = omega arith
 none_counted hop (first ∷ hops) none =
     let here : one_if (share_pin hop first) ≡ 0 = ap one_if (none 0 first (omega arith)) in
@@ -60,7 +62,8 @@ share_turned hop other shares = share_both hop other hop shares (own hop) where
 
 -- so a hop that shares the pin and the microcycle of another one is that one: the same hop of the same wire
 pub only_user : (planned : PlannedBoard) → IsSound planned → (number place other further : ℕ) (wire second : Wire) (hop one : Hop)
-    → slice_get planned.plan.wires number ≡ Some wire → slice_get wire.hops place ≡ Some hop → slice_get planned.plan.wires other ≡ Some second → slice_get second.hops further ≡ Some one
+    → slice_get planned.plan.wires number ≡ Some wire → slice_get wire.hops place ≡ Some hop
+    → slice_get planned.plan.wires other ≡ Some second → slice_get second.hops further ≡ Some one
     → share_pin hop one ≡ true → (number ≡ other) × (place ≡ further)
 only_user planned sound number place other further wire second hop one at is there its shares =
     let wires = planned.plan.wires in

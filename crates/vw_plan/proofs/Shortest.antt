@@ -19,7 +19,8 @@ record Simple (links : List Link) (from to : ℕ) : Type 0 where
   once : IsDistinct eqb (from ∷ nodes)
 
 -- of a walk that goes through no node twice, the part from a node on that it goes through
-part_from : (links : List Link) (node from : ℕ) (nodes : List ℕ) (to : ℕ) → IsWalk links from nodes to → IsDistinct eqb (from ∷ nodes) → list_any (eqb node) (from ∷ nodes) ≡ true → Simple links node to
+part_from : (links : List Link) (node from : ℕ) (nodes : List ℕ) (to : ℕ) → IsWalk links from nodes to → IsDistinct eqb (from ∷ nodes)
+    → list_any (eqb node) (from ∷ nodes) ≡ true → Simple links node to
 unfolding IsDistinct
 part_from links node from [] to walk once among =
     let if_here = λ (here : eqb node from ≡ true). let whole : Simple links node to = record { nodes = []; walk = eqb-true node from here ∙ walk; once = (tt, tt) } in whole in
@@ -48,7 +49,8 @@ module _ (chips : ℕ) (links : List Link) (ends : All (λ link. (link.from ≤ 
       subst (λ (node : ℕ). node ≤ chips) (ap (λ (link : Link). link.to) found.is ∙ found.reaches) (ends found.place found.link found.within).1
 
   -- a walk goes through nodes of the board
-  on_board : (from : ℕ) (nodes : List ℕ) (to : ℕ) → from ≤ chips → IsWalk links from nodes to → (node : ℕ) → list_any (eqb node) (from ∷ nodes) ≡ true → node ≤ chips
+  on_board : (from : ℕ) (nodes : List ℕ) (to : ℕ) → from ≤ chips → IsWalk links from nodes to → (node : ℕ)
+      → list_any (eqb node) (from ∷ nodes) ≡ true → node ≤ chips
   on_board from [] to within walk node among =
       let if_here = λ (here : eqb node from ≡ true). let same : node ≡ from = eqb-true node from here in let whole : node ≤ chips = omega arith in whole in
       let if_later = λ (later : false ≡ true). let whole : node ≤ chips = absurd (true≢false (sym later)) in whole in
@@ -76,7 +78,8 @@ module _ (chips : ℕ) (links : List Link) (ends : All (λ link. (link.from ≤ 
       record { count = length simple.nodes; few = few_links from to within simple; passes = has_walk-IsWalk links from simple.nodes to simple.walk }
 
   -- the least number of links that passes the test is at most that of a walk
-  pub least_of_walk : (from : ℕ) (nodes : List ℕ) (to : ℕ) → from ≤ chips → IsWalk links from nodes to → IsLeastPassing (λ count. has_walk links count from to) chips (length nodes)
+  pub least_of_walk : (from : ℕ) (nodes : List ℕ) (to : ℕ) → from ≤ chips → IsWalk links from nodes to
+      → IsLeastPassing (λ count. has_walk links count from to) chips (length nodes)
   least_of_walk from nodes to within walk =
       let test = λ (count : ℕ). has_walk links count from to in
       let short : IsShort from to = short_walk from nodes to within walk in

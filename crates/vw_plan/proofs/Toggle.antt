@@ -77,7 +77,8 @@ each_gate (suc zero) = refl
 each_gate (suc (suc number)) = rw (unequal 0 (suc (suc number)) (omega arith)) refl
 
 -- the gate reads the input and the latch
-pub after : (place : ℕ) → place < 1 → list_all (is_ready 1 toggle.cells (take place (0 ∷ []))) (read_nets_at (slice_get toggle.cells (slice_index (0 ∷ []) place))) ≡ true
+pub after : (place : ℕ) → place < 1
+    → list_all (is_ready 1 toggle.cells (take place (0 ∷ []))) (read_nets_at (slice_get toggle.cells (slice_index (0 ∷ []) place))) ≡ true
 after zero within = refl
 after (suc place) within = absurd (omega arith)
 

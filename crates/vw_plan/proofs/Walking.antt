@@ -24,7 +24,8 @@ found_link links from to has =
     record { place = any.0; link = any.1; within = any.2; is = any.3; leaves = eqb-true any.1.from from ends.0; reaches = eqb-true any.1.to to ends.1 }
 
 -- a list of links that has one passes its test
-passing : (links : List Link) (test : Link → Bool) (place : ℕ) (link : Link) → place < length links → get_or links place link ≡ link → test link ≡ true → list_any test links ≡ true
+passing : (links : List Link) (test : Link → Bool) (place : ℕ) (link : Link) → place < length links → get_or links place link ≡ link
+    → test link ≡ true → list_any test links ≡ true
 passing links test place link within is passes = list_any_at test links place link within (ap test is ∙ passes)
 
 -- a walk passes the test for as many links as it has

@@ -28,7 +28,8 @@ open_not Open is same = absurd (true≢false is)
 open_not Done is same = cc
 
 -- nothing was popped
-nothing_left : (stack rest : List ℕ) (popped : Option ℕ) (count left : ℕ) → popped ≡ None → stack ≡ rest ++ option_to_list popped → rest ≡ take (count - 1) stack
+nothing_left : (stack rest : List ℕ) (popped : Option ℕ) (count left : ℕ) → popped ≡ None → stack ≡ rest ++ option_to_list popped
+    → rest ≡ take (count - 1) stack
     → MatchOption popped ((count ≡ 0) × (left ≡ 0)) (λ _. left + 1 ≡ count) → stack ≡ []
 nothing_left stack rest None count left none items front cases = items ∙ append-nil rest ∙ front ∙ ap (λ (n : ℕ). take (n - 1) stack) cases.0
 nothing_left stack rest (Some x) count left none items front cases = absurd (none-some x (sym none))
@@ -38,7 +39,8 @@ rest_empty stack rest None none empty items = sym (append-nil rest) ∙ sym item
 rest_empty stack rest (Some x) none empty items = absurd (none-some x (sym none))
 
 -- what was done or open before is so afterwards
-kept : (old depth new : DepthSearch) (stack order' stack' : List ℕ) (number : ℕ) → depth.stack.items ≡ stack ++ number ∷ [] → new.order.items ≡ order' → new.stack.items ≡ stack' → KeepsNumbers old depth
+kept : (old depth new : DepthSearch) (stack order' stack' : List ℕ) (number : ℕ) → depth.stack.items ≡ stack ++ number ∷ []
+    → new.order.items ≡ order' → new.stack.items ≡ stack' → KeepsNumbers old depth
     → ((other : ℕ) → is_among (depth.order.items ++ (stack ++ number ∷ [])) other ≡ true → is_among (order' ++ stack') other ≡ true) → KeepsNumbers old new
 kept old depth new stack order' stack' number was order_is stack_is before step = λ other among.
     let there : is_among (depth.order.items ++ (stack ++ number ∷ [])) other ≡ true = subst (λ (l : List ℕ). is_among (depth.order.items ++ l) other ≡ true) was (before other among) in
