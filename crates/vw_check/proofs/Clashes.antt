@@ -27,14 +27,18 @@ placed_at wire number hop = record { wire = wire; number = number; hop = hop }
 
 -- ---- one more pin
 
-given_by : (shared : Bool) (before : Option PlacedHop) (old new : Option (ℕ × ℕ)) (placed : PlacedHop) → old ≡ option_map numbers before → (shared ≡ true → old ≡ None) → new ≡ cond shared (Some (numbers placed)) old → new ≡ option_map numbers (option_or before (cond shared (Some placed) None))
+given_by : (shared : Bool) (before : Option PlacedHop) (old new : Option (ℕ × ℕ)) (placed : PlacedHop) → old ≡ option_map numbers before
+    → (shared ≡ true → old ≡ None) → new ≡ cond shared (Some (numbers placed)) old
+    → new ≡ option_map numbers (option_or before (cond shared (Some placed) None))
 given_by true None old new placed has free is = is
 given_by true (Some earlier) old new placed has free is = let none : old ≡ None = free refl in cc
 given_by false None old new placed has free is = is ∙ has
 given_by false (Some earlier) old new placed has free is = is ∙ has
 
 -- the user of the pin with these parts
-pub used_by : {S : Type 0} (table : hash.HashMap PinKey (ℕ × ℕ) S) (from to pin at : ℕ) (hop : Hop) → from ≡ hop.from → to ≡ hop.to → pin ≡ hop.pin → at ≡ hop.at → hash.get_by (λ (key : PinKey). (eqb from key.0.0 && eqb to key.0.1) && (eqb pin key.1.0 && eqb at key.1.1)) table ≡ user_in table hop
+pub used_by : {S : Type 0} (table : hash.HashMap PinKey (ℕ × ℕ) S) (from to pin at : ℕ) (hop : Hop) → from ≡ hop.from → to ≡ hop.to
+    → pin ≡ hop.pin → at ≡ hop.at
+    → hash.get_by (λ (key : PinKey). (eqb from key.0.0 && eqb to key.0.1) && (eqb pin key.1.0 && eqb at key.1.1)) table ≡ user_in table hop
 used_by table from to pin at hop from_is to_is pin_is at_is =
     let used = λ (one two three four : ℕ). hash.get_by (λ (key : PinKey). (eqb one key.0.0 && eqb two key.0.1) && (eqb three key.1.0 && eqb four key.1.1)) table in
     ap (λ (one : ℕ). used one to pin at) from_is
@@ -50,10 +54,14 @@ same_user table hop other shared =
     let pins = and_parts (eqb hop.pin other.pin) (eqb hop.at other.at) parts.1 in
     sym (used_by table hop.from hop.to hop.pin hop.at other (eqb-true hop.from other.from ends.0) (eqb-true hop.to other.to ends.1) (eqb-true hop.pin other.pin pins.0) (eqb-true hop.at other.at pins.1))
 
-pub share_pin-parts : (from to pin at : ℕ) (hop other : Hop) → from ≡ hop.from → to ≡ hop.to → pin ≡ hop.pin → at ≡ hop.at → ((eqb from other.from && eqb to other.to) && (eqb pin other.pin && eqb at other.at)) ≡ share_pin hop other
+pub share_pin-parts : (from to pin at : ℕ) (hop other : Hop) → from ≡ hop.from → to ≡ hop.to → pin ≡ hop.pin → at ≡ hop.at
+    → ((eqb from other.from && eqb to other.to) && (eqb pin other.pin && eqb at other.at)) ≡ share_pin hop other
 share_pin-parts from to pin at hop other from_is to_is pin_is at_is = rw (from_is, to_is, pin_is, at_is) refl
 
-pub pins_given : {S : Type 0} (placed : List PlacedHop) (old new : hash.HashMap PinKey (ℕ × ℕ) S) (wire number : ℕ) (hop : Hop) → HasFirstHops placed old → user_in old hop ≡ None → ((other : Hop) → user_in new other ≡ cond (share_pin hop other) (Some (wire, number)) (user_in old other)) → HasFirstHops (placed ++ placed_at wire number hop ∷ []) new
+pub pins_given : {S : Type 0} (placed : List PlacedHop) (old new : hash.HashMap PinKey (ℕ × ℕ) S) (wire number : ℕ) (hop : Hop)
+    → HasFirstHops placed old → user_in old hop ≡ None
+    → ((other : Hop) → user_in new other ≡ cond (share_pin hop other) (Some (wire, number)) (user_in old other))
+    → HasFirstHops (placed ++ placed_at wire number hop ∷ []) new
 pins_given placed old new wire number hop has free put other =
     given_by (share_pin hop other) (first_sharing placed other) (user_in old other) (user_in new other) (placed_at wire number hop) (has other) (λ shared. same_user old hop other shared ∙ free) (put other)
     ∙ ap (option_map numbers) (sym (find-append (λ earlier. share_pin earlier.hop other) placed (placed_at wire number hop ∷ [])))
@@ -67,7 +75,8 @@ pub record IsRestOfHops {S : Type 0} (placed : List PlacedHop) (wire number : �
   pub left : clash_behind before (hops_placed wire number (drop number hops)) ≡ clash_behind placed (hops_placed wire 0 hops)
   pub all : before ++ hops_placed wire number (drop number hops) ≡ placed ++ hops_placed wire 0 hops
 
-pub left_first : {S : Type 0} (placed : List PlacedHop) (wire : ℕ) (hops : List Hop) (users : hash.HashMap PinKey (ℕ × ℕ) S) → HasFirstHops placed users → IsRestOfHops placed wire 0 hops users
+pub left_first : {S : Type 0} (placed : List PlacedHop) (wire : ℕ) (hops : List Hop) (users : hash.HashMap PinKey (ℕ × ℕ) S)
+    → HasFirstHops placed users → IsRestOfHops placed wire 0 hops users
 left_first placed wire hops users pins = record { before = placed; pins = pins; left = refl; all = refl }
 
 none_before : (before : Option PlacedHop) → None ≡ option_map numbers before → before ≡ None
@@ -79,7 +88,9 @@ module _ {S : Type 0} (placed : List PlacedHop) (wire number : ℕ) (hops : List
   here = rw (add-one, drop-cons hops number default within, ← is) refl
 
   -- a hop that shares no pin leaves the rest
-  pub left_next : (after : hash.HashMap PinKey (ℕ × ℕ) S) → user_in users hop ≡ None → (HasFirstHops now.before users → HasFirstHops (now.before ++ placed_at wire number hop ∷ []) after) → IsRestOfHops placed wire (number + 1) hops after
+  pub left_next : (after : hash.HashMap PinKey (ℕ × ℕ) S) → user_in users hop ≡ None
+      → (HasFirstHops now.before users → HasFirstHops (now.before ++ placed_at wire number hop ∷ []) after)
+      → IsRestOfHops placed wire (number + 1) hops after
   left_next after free give = record {
     before = now.before ++ placed_at wire number hop ∷ [];
     pins = give now.pins;
@@ -91,19 +102,24 @@ module _ {S : Type 0} (placed : List PlacedHop) (wire number : ℕ) (hops : List
     all = append_assoc now.before (placed_at wire number hop ∷ []) (hops_placed wire (number + 1) (drop (number + 1) hops)) ∙ sym (ap (λ (more : List PlacedHop). now.before ++ more) here) ∙ now.all;
   }
 
-  some_before : (before : Option PlacedHop) (first_wire first_number : ℕ) (rest : Option PlanFault) → Some (first_wire, first_number) ≡ option_map numbers before → Some (PinClash first_wire first_number wire number) ≡ option_or (option_map (λ (earlier : PlacedHop). PinClash earlier.wire earlier.number wire number) before) rest
+  some_before : (before : Option PlacedHop) (first_wire first_number : ℕ) (rest : Option PlanFault)
+      → Some (first_wire, first_number) ≡ option_map numbers before
+      → Some (PinClash first_wire first_number wire number) ≡ option_or (option_map (λ (earlier : PlacedHop). PinClash earlier.wire earlier.number wire number) before) rest
   some_before None first_wire first_number rest is = cc
   some_before (Some earlier) first_wire first_number rest is =
       let parts = some_pair_parts first_wire earlier.wire first_number earlier.number is in
       ap₂ (λ (one other : ℕ). Some (PinClash one other wire number)) parts.0 parts.1
 
   -- and one that shares a pin is the first of them
-  pub left_clash : (first_wire first_number : ℕ) → user_in users hop ≡ Some (first_wire, first_number) → Some (PinClash first_wire first_number wire number) ≡ clash_behind placed (hops_placed wire 0 hops)
+  pub left_clash : (first_wire first_number : ℕ) → user_in users hop ≡ Some (first_wire, first_number)
+      → Some (PinClash first_wire first_number wire number) ≡ clash_behind placed (hops_placed wire 0 hops)
   left_clash first_wire first_number used =
       some_before (first_sharing now.before hop) first_wire first_number (clash_behind (now.before ++ placed_at wire number hop ∷ []) (hops_placed wire (number + 1) (drop (number + 1) hops))) (sym used ∙ now.pins hop)
       ∙ sym (ap (clash_behind now.before) here) ∙ now.left
 
-pub left_end : {S : Type 0} (placed : List PlacedHop) (wire number : ℕ) (hops : List Hop) (users : hash.HashMap PinKey (ℕ × ℕ) S) → IsRestOfHops placed wire number hops users → length hops ≤ number → (None ≡ clash_behind placed (hops_placed wire 0 hops)) × HasFirstHops (placed ++ hops_placed wire 0 hops) users
+pub left_end : {S : Type 0} (placed : List PlacedHop) (wire number : ℕ) (hops : List Hop) (users : hash.HashMap PinKey (ℕ × ℕ) S)
+    → IsRestOfHops placed wire number hops users → length hops ≤ number
+    → (None ≡ clash_behind placed (hops_placed wire 0 hops)) × HasFirstHops (placed ++ hops_placed wire 0 hops) users
 left_end placed wire number hops users now past =
     let none : drop number hops ≡ [] = drop_all number hops past in
     let all : now.before ++ [] ≡ placed ++ hops_placed wire 0 hops = rw none at now.all in
@@ -159,12 +175,14 @@ module _ {S : Type 0} (number : ℕ) (wires : List Wire) (users after : hash.Has
   pub wires_clash : is_some found ≡ true → found ≡ clash_behind [] (wires_placed 0 wires)
   wires_clash there = sym (some_or found (rest_of (now.before ++ hops_placed number 0 hops)) there) ∙ split
 
-pub wires_end : {S : Type 0} (number : ℕ) (wires : List Wire) (users : hash.HashMap PinKey (ℕ × ℕ) S) → AreLeft number wires users → length wires ≤ number → None ≡ clash_behind [] (wires_placed 0 wires)
+pub wires_end : {S : Type 0} (number : ℕ) (wires : List Wire) (users : hash.HashMap PinKey (ℕ × ℕ) S) → AreLeft number wires users
+    → length wires ≤ number → None ≡ clash_behind [] (wires_placed 0 wires)
 wires_end number wires users now past = rw (drop_all number wires past) at now.left
 
 -- ---- the definition, which takes the hops before each place
 
-by_place : (before xs : List PlacedHop) (place : ℕ) (all : List PlacedHop) → place ≡ length before → all ≡ before ++ xs → clash_behind before xs ≡ first_at (λ at later. clash_of (first_sharing (take at all) later.hop) later) place xs
+by_place : (before xs : List PlacedHop) (place : ℕ) (all : List PlacedHop) → place ≡ length before → all ≡ before ++ xs
+    → clash_behind before xs ≡ first_at (λ at later. clash_of (first_sharing (take at all) later.hop) later) place xs
 by_place before [] place all long is = refl
 by_place before (x ∷ xs) place all long is =
     let earlier : take place all ≡ before = ap₂ (λ (count : ℕ) (list : List PlacedHop). take count list) long is ∙ take-append_seam before (x ∷ xs) in

@@ -35,7 +35,8 @@ passes_chip board chip is =
 
 -- ---- how many cells are on a chip
 
-count_step : (P : ℕ → Type 0) (other chip : ℕ) (chips : List ℕ) → P other → (P chip → ⊥) → count_by (λ one. one == chip) chips ≡ 0 → (same : Bool) → (other == chip) ≡ same
+count_step : (P : ℕ → Type 0) (other chip : ℕ) (chips : List ℕ) → P other → (P chip → ⊥) → count_by (λ one. one == chip) chips ≡ 0
+    → (same : Bool) → (other == chip) ≡ same
     → count_by (λ one. one == chip) (other ∷ chips) ≡ 0
 count_step P other chip chips here none rest true same = absurd (none (subst P (eqb-true other chip same) here))
 count_step P other chip chips here none rest false same = rw same rest
@@ -49,7 +50,8 @@ no_cells P (other ∷ chips) chip all none = count_step P other chip chips (All-
 range_step : (from count : ℕ) → range_with_len from (suc count) ≡ from ∷ range_with_len (suc from) count
 range_step from count = let one : from + 1 ≡ suc from = omega arith in ap (λ (n : ℕ). from ∷ range_with_len n count) one
 
-each_from : (P : ℕ → Type 0) (number from count : ℕ) → EachAt (λ k chip. P chip) number (range_with_len from count) → (chip : ℕ) → from ≤ chip → chip < from + count → P chip
+each_from : (P : ℕ → Type 0) (number from count : ℕ) → EachAt (λ k chip. P chip) number (range_with_len from count) → (chip : ℕ)
+    → from ≤ chip → chip < from + count → P chip
 each_from P number from zero each chip above below = absurd (omega arith)
 each_from P number from (suc count) each chip above below =
     let split = subst (EachAt (λ k one. P one) number) (range_step from count) each in

@@ -41,21 +41,26 @@ ShareNoPin one other = share_pin one.hop other.hop ≡ false
 abbrev clash_with : PlacedHop → PlacedHop → PlanFault
 clash_with later earlier = PinClash earlier.wire earlier.number later.wire later.number
 
-none_step : (shares : Bool) (earlier later : PlacedHop) (rest : Option PlacedHop) → option_map (clash_with later) (cond shares (Some earlier) rest) ≡ None → (shares ≡ false) × (option_map (clash_with later) rest ≡ None)
+none_step : (shares : Bool) (earlier later : PlacedHop) (rest : Option PlacedHop)
+    → option_map (clash_with later) (cond shares (Some earlier) rest) ≡ None
+    → (shares ≡ false) × (option_map (clash_with later) rest ≡ None)
 none_step true earlier later rest none = absurd (none-some (clash_with later earlier) (sym none))
 none_step false earlier later rest none = (refl, none)
 
-none_found : (placed : List PlacedHop) (later : PlacedHop) → option_map (clash_with later) (first_sharing placed later.hop) ≡ None → All (λ earlier. ShareNoPin earlier later) placed
+none_found : (placed : List PlacedHop) (later : PlacedHop) → option_map (clash_with later) (first_sharing placed later.hop) ≡ None
+    → All (λ earlier. ShareNoPin earlier later) placed
 none_found [] later none = All-nil (λ earlier. ShareNoPin earlier later)
 none_found (earlier ∷ placed) later none =
     let step = none_step (share_pin earlier.hop later.hop) earlier later (first_sharing placed later.hop) none in
     All-cons (λ one. ShareNoPin one later) earlier placed step.0 (none_found placed later step.1)
 
-found_step : (shares : Bool) (earlier later : PlacedHop) (rest : Option PlacedHop) → shares ≡ false → option_map (clash_with later) rest ≡ None → option_map (clash_with later) (cond shares (Some earlier) rest) ≡ None
+found_step : (shares : Bool) (earlier later : PlacedHop) (rest : Option PlacedHop) → shares ≡ false
+    → option_map (clash_with later) rest ≡ None → option_map (clash_with later) (cond shares (Some earlier) rest) ≡ None
 found_step true earlier later rest here none = absurd (true≢false here)
 found_step false earlier later rest here none = none
 
-found_none : (placed : List PlacedHop) (later : PlacedHop) → All (λ earlier. ShareNoPin earlier later) placed → option_map (clash_with later) (first_sharing placed later.hop) ≡ None
+found_none : (placed : List PlacedHop) (later : PlacedHop) → All (λ earlier. ShareNoPin earlier later) placed
+    → option_map (clash_with later) (first_sharing placed later.hop) ≡ None
 found_none [] later all = refl
 found_none (earlier ∷ placed) later all =
     found_step (share_pin earlier.hop later.hop) earlier later (first_sharing placed later.hop) (All-head (λ one. ShareNoPin one later) earlier placed all) (found_none placed later (All-tail (λ one. ShareNoPin one later) earlier placed all))
@@ -65,7 +70,8 @@ found_none (earlier ∷ placed) later all =
 abbrev BeforeNone : List PlacedHop → ℕ → PlacedHop → Type 0
 BeforeNone placed place later = option_map (clash_with later) (first_sharing (take place placed) later.hop) ≡ None
 
-taken : {X : Type 0} (xs : List X) (i n : ℕ) (default : X) → i < n → n ≤ length xs → (get_or (take n xs) i default ≡ get_or xs i default) × (i < length (take n xs))
+taken : {X : Type 0} (xs : List X) (i n : ℕ) (default : X) → i < n → n ≤ length xs
+    → (get_or (take n xs) i default ≡ get_or xs i default) × (i < length (take n xs))
 taken xs i n default below within = (get_or-take n xs i default below, omega (arith, length-take-le n xs within))
 
 same_default : {X : Type 0} (xs : List X) (i : ℕ) (one other : X) → i < length xs → get_or xs i one ≡ get_or xs i other
@@ -126,7 +132,8 @@ module _ (plan : Plan) where
       not-true (share_pin (get_or placed i default).hop (get_or placed j default).hop)
       (subst (λ (one : Hop). HopsShareNoPin (get_or placed i default).hop one) there (subst (λ (one : Hop). HopsShareNoPin one (get_or (map (λ one. one.hop) placed) j default.hop)) here apart))))
 
-  clash_is : (planned : PlannedBoard) → (P : PlanFault → Type 0) → ((wire number other clash : ℕ) → P (PinClash wire number other clash)) → (later : PlacedHop) (found : Option PlacedHop) (fault : PlanFault) → option_map (clash_with later) found ≡ Some fault → P fault
+  clash_is : (planned : PlannedBoard) → (P : PlanFault → Type 0) → ((wire number other clash : ℕ) → P (PinClash wire number other clash))
+      → (later : PlacedHop) (found : Option PlacedHop) (fault : PlanFault) → option_map (clash_with later) found ≡ Some fault → P fault
   clash_is planned P each later None fault is = absurd (none-some fault is)
   clash_is planned P each later (Some earlier) fault is =
       let same : clash_with later earlier ≡ fault = cc in

@@ -17,12 +17,14 @@ use Rattle.vw_net.proofs.FirstFound.{EachAt, each_none, none_each, each_to, each
 
 -- ---- from one numbering to the next
 
-each_shift : {X : Type 0} (P Q : ℕ → X → Type 0) (number : ℕ) (xs : List X) → ((k : ℕ) (x : X) → k < number + length xs → P (suc k) x → Q k x) → EachAt P (suc number) xs → EachAt Q number xs
+each_shift : {X : Type 0} (P Q : ℕ → X → Type 0) (number : ℕ) (xs : List X)
+    → ((k : ℕ) (x : X) → k < number + length xs → P (suc k) x → Q k x) → EachAt P (suc number) xs → EachAt Q number xs
 each_shift P Q number [] step each = tt
 each_shift P Q number (x ∷ xs) step each =
     (step number x (omega arith) each.0, each_shift P Q (suc number) xs (λ k y below. step k y (omega arith)) each.1)
 
-each_unshift : {X : Type 0} (P Q : ℕ → X → Type 0) (number : ℕ) (xs : List X) → ((k : ℕ) (x : X) → number ≤ k → k < number + length xs → Q k x → P (suc k) x) → EachAt Q number xs → EachAt P (suc number) xs
+each_unshift : {X : Type 0} (P Q : ℕ → X → Type 0) (number : ℕ) (xs : List X)
+    → ((k : ℕ) (x : X) → number ≤ k → k < number + length xs → Q k x → P (suc k) x) → EachAt Q number xs → EachAt P (suc number) xs
 each_unshift P Q number [] step each = tt
 each_unshift P Q number (x ∷ xs) step each =
     (step number x (omega arith) (omega arith) each.0, each_unshift P Q (suc number) xs (λ k y above below. step k y (omega arith) (omega arith)) each.1)
@@ -36,13 +38,15 @@ lt_suc a b = by (nat_lt a b) refl where
 -- ---- routes: hop by hop, and as a whole
 
 -- what stands in the list doesn't depend on what is said of the rest
-end_of : (hops : List Hop) (number one other : ℕ) → number < length hops → option_map_or (λ before. before.to) (slice_get hops number) one ≡ option_map_or (λ before. before.to) (slice_get hops number) other
+end_of : (hops : List Hop) (number one other : ℕ) → number < length hops
+    → option_map_or (λ before. before.to) (slice_get hops number) one ≡ option_map_or (λ before. before.to) (slice_get hops number) other
 end_of [] number one other within = absurd (omega arith)
 end_of (hop ∷ hops) zero one other within = refl
 end_of (hop ∷ hops) (suc number) one other within = end_of hops number one other (omega arith)
 
 -- behind one hop more
-begins_later : (from : ℕ) (hop : Hop) (hops : List Hop) (number : ℕ) → number < length hops → begins_at from (hop ∷ hops) (suc number) ≡ begins_at hop.to hops number
+begins_later : (from : ℕ) (hop : Hop) (hops : List Hop) (number : ℕ) → number < length hops
+    → begins_at from (hop ∷ hops) (suc number) ≡ begins_at hop.to hops number
 begins_later from hop hops zero within = refl
 begins_later from hop hops (suc number) within = end_of hops number from hop.to (omega arith)
 
@@ -50,11 +54,13 @@ abbrev pub hop_goes_on : List Link → ℕ → List Hop → ℕ → ℕ → Hop 
 hop_goes_on links from hops to number hop =
     (hop.from == begins_at from hops number && has_link links hop.from hop.to) && (nat_lt (suc number) (length hops) || hop.to == to)
 
-goes_later : (links : List Link) (from to : ℕ) (first : Hop) (hops : List Hop) (number : ℕ) (hop : Hop) → number < length hops → hop_goes_on links from (first ∷ hops) to (suc number) hop ≡ hop_goes_on links first.to hops to number hop
+goes_later : (links : List Link) (from to : ℕ) (first : Hop) (hops : List Hop) (number : ℕ) (hop : Hop) → number < length hops
+    → hop_goes_on links from (first ∷ hops) to (suc number) hop ≡ hop_goes_on links first.to hops to number hop
 goes_later links from to first hops number hop within =
     ap₂ (λ (start : ℕ) (more : Bool). (hop.from == start && has_link links hop.from hop.to) && (more || hop.to == to)) (begins_later from first hops number within) (lt_suc (suc number) (length hops))
 
-pub leads_from_goes : (links : List Link) (from to : ℕ) (hops : List Hop) → 0 < length hops → EachAt (λ number hop. hop_goes_on links from hops to number hop ≡ true) 0 hops → leads_to from hops to ≡ true
+pub leads_from_goes : (links : List Link) (from to : ℕ) (hops : List Hop) → 0 < length hops
+    → EachAt (λ number hop. hop_goes_on links from hops to number hop ≡ true) 0 hops → leads_to from hops to ≡ true
 leads_from_goes links from to [] some each = absurd (omega arith)
 leads_from_goes links from to (hop ∷ []) some each =
     let parts = and_parts (hop.from == from && has_link links hop.from hop.to) (hop.to == to) each.0 in
@@ -66,7 +72,9 @@ leads_from_goes links from to (hop ∷ next ∷ hops) some each =
     (each_shift (λ number one. hop_goes_on links from (hop ∷ next ∷ hops) to number one ≡ true) (λ number one. hop_goes_on links hop.to (next ∷ hops) to number one ≡ true) 0 (next ∷ hops)
     (λ number one below is. sym (goes_later links from to hop (next ∷ hops) number one (omega arith)) ∙ is) each.1))
 
-pub goes_from_leads : (links : List Link) (from to : ℕ) (hops : List Hop) → leads_to from hops to ≡ true → All (λ hop. has_link links hop.from hop.to ≡ true) hops → EachAt (λ number hop. hop_goes_on links from hops to number hop ≡ true) 0 hops
+pub goes_from_leads : (links : List Link) (from to : ℕ) (hops : List Hop) → leads_to from hops to ≡ true
+    → All (λ hop. has_link links hop.from hop.to ≡ true) hops
+    → EachAt (λ number hop. hop_goes_on links from hops to number hop ≡ true) 0 hops
 goes_from_leads links from to [] leads all = tt
 goes_from_leads links from to (hop ∷ []) leads all =
     let parts = and_parts (hop.from == from) (hop.to == to) leads in
@@ -84,11 +92,13 @@ goes_from_leads links from to (hop ∷ next ∷ hops) leads all =
 
 -- ---- rising microcycles: hop by hop, and as a whole
 
-later_later : (links : List Link) (first : Hop) (hops : List Hop) (number : ℕ) (hop : Hop) → is_later links (first ∷ hops) (suc number) hop ≡ true → is_later links hops number hop ≡ true
+later_later : (links : List Link) (first : Hop) (hops : List Hop) (number : ℕ) (hop : Hop)
+    → is_later links (first ∷ hops) (suc number) hop ≡ true → is_later links hops number hop ≡ true
 later_later links first hops zero hop is = refl
 later_later links first hops (suc number) hop is = is
 
-later_step : (links : List Link) (first : Hop) (hops : List Hop) (number : ℕ) (hop : Hop) → 1 ≤ number → is_later links hops number hop ≡ true → is_later links (first ∷ hops) (suc number) hop ≡ true
+later_step : (links : List Link) (first : Hop) (hops : List Hop) (number : ℕ) (hop : Hop) → 1 ≤ number
+    → is_later links hops number hop ≡ true → is_later links (first ∷ hops) (suc number) hop ≡ true
 later_step links first hops zero hop some is = absurd (omega arith)
 later_step links first hops (suc number) hop some is = is
 

@@ -36,12 +36,14 @@ module _ (planned : PlannedBoard) where
       let same : first ≡ hop = cc in
       subst (λ (one : Hop). usable_at_home planned net ≤ one.at) same in_time
 
-  not_early : (number net : ℕ) (first : Option Hop) → ForSome first (λ hop. usable_at_home planned net ≤ hop.at) → option_and_then (early number net) first ≡ None
+  not_early : (number net : ℕ) (first : Option Hop) → ForSome first (λ hop. usable_at_home planned net ≤ hop.at)
+      → option_and_then (early number net) first ≡ None
   not_early number net None is = refl
   not_early number net (Some first) is =
       none_unless (nat_le (usable_at_home planned net) first.at) (TooEarly number first.at (usable_at_home planned net)) (le-leb (usable_at_home planned net) first.at (is first refl))
 
-  early_is : (P : PlanFault → Type 0) → ((number sent usable : ℕ) → P (TooEarly number sent usable)) → (number net : ℕ) (first : Option Hop) (fault : PlanFault) → option_and_then (early number net) first ≡ Some fault → P fault
+  early_is : (P : PlanFault → Type 0) → ((number sent usable : ℕ) → P (TooEarly number sent usable))
+      → (number net : ℕ) (first : Option Hop) (fault : PlanFault) → option_and_then (early number net) first ≡ Some fault → P fault
   early_is P each number net None fault is = absurd (none-some fault is)
   early_is P each number net (Some first) fault is =
       subst P (unless_is (nat_le (usable_at_home planned net) first.at) (TooEarly number first.at (usable_at_home planned net)) fault is) (each number first.at (usable_at_home planned net))
@@ -88,7 +90,8 @@ module _ (planned : PlannedBoard) where
       none_each (late_cell planned) 0 cells
       (or_each-zero (λ number cell. late_cell planned number cell ≡ None) cells (λ i default below. cell_in_time all i (get_or cells i default) (at_place cells i default below)))
 
-  late_is : (P : PlanFault → Type 0) → ((number usable : ℕ) → P (LateLatch number usable)) → (number : ℕ) (cell : Cell) (fault : PlanFault) → late_cell planned number cell ≡ Some fault → P fault
+  late_is : (P : PlanFault → Type 0) → ((number usable : ℕ) → P (LateLatch number usable)) → (number : ℕ) (cell : Cell) (fault : PlanFault)
+      → late_cell planned number cell ≡ Some fault → P fault
   late_is P each number (Gate ins cover) fault is = absurd (none-some fault is)
   late_is P each number (Latch d init) fault is =
       subst P (unless_is (nat_le (latch_microcycle planned number d) plan.period) (LateLatch number (latch_microcycle planned number d)) fault is) (each number (latch_microcycle planned number d))

@@ -44,7 +44,8 @@ module _ (planned : PlannedBoard) where
     each : EachAt (λ place hop. hop_goes_on board.links (home planned wire.net) wire.hops wire.to place hop ≡ true) 0 wire.hops
 
   wire_goes : (number : ℕ) (wire : Wire) → (empty : Bool) → (length wire.hops == 0) ≡ empty
-      → (if empty then Some (BrokenRoute number 0) else first_at (λ place hop. found_unless (hop_goes_on board.links (home planned wire.net) wire.hops wire.to place hop) (BrokenRoute number place)) 0 wire.hops) ≡ None → Goes wire
+      → (if empty then Some (BrokenRoute number 0) else first_at (λ place hop. found_unless (hop_goes_on board.links (home planned wire.net) wire.hops wire.to place hop) (BrokenRoute number place)) 0 wire.hops) ≡ None
+      → Goes wire
   wire_goes number wire true is none = absurd (none-some (BrokenRoute number 0) (sym none))
   wire_goes number wire false is none = record {
     some = some_hops (length wire.hops) is;
@@ -120,7 +121,8 @@ module _ (planned : PlannedBoard) where
   -- ---- what the faults break
 
   broken_is : (P : PlanFault → Type 0) → ((number place : ℕ) → P (BrokenRoute number place)) → (number : ℕ) (wire : Wire) (found : PlanFault) → (empty : Bool)
-      → (if empty then Some (BrokenRoute number 0) else first_at (λ place hop. found_unless (hop_goes_on board.links (home planned wire.net) wire.hops wire.to place hop) (BrokenRoute number place)) 0 wire.hops) ≡ Some found → P found
+      → (if empty then Some (BrokenRoute number 0) else first_at (λ place hop. found_unless (hop_goes_on board.links (home planned wire.net) wire.hops wire.to place hop) (BrokenRoute number place)) 0 wire.hops) ≡ Some found
+      → P found
   broken_is P each number wire found true is = let same : BrokenRoute number 0 ≡ found = cc in subst P same (each number 0)
   broken_is P each number wire found false is =
       first_is (λ place hop. found_unless (hop_goes_on board.links (home planned wire.net) wire.hops wire.to place hop) (BrokenRoute number place)) P

@@ -41,7 +41,8 @@ count_none net node (wire ∷ wires) none =
 some_count : (net node : ℕ) (wires : List Wire) → is_brought wires net node ≡ true → 1 ≤ count_by (brings net node) wires
 some_count net node [] some = absurd (true≢false (sym some))
 some_count net node (wire ∷ wires) some = by (brings net node wire) refl (is_brought wires net node) refl (some_count net node wires) where
-  by : (here : Bool) → brings net node wire ≡ here → (there : Bool) → is_brought wires net node ≡ there → (is_brought wires net node ≡ true → 1 ≤ count_by (brings net node) wires) → 1 ≤ count_by (brings net node) (wire ∷ wires)
+  by : (here : Bool) → brings net node wire ≡ here → (there : Bool) → is_brought wires net node ≡ there
+      → (is_brought wires net node ≡ true → 1 ≤ count_by (brings net node) wires) → 1 ≤ count_by (brings net node) (wire ∷ wires)
   by true is there its rest =
       let split = sum_by-append (λ one. cond (brings net node one) 1 0) (wire ∷ []) wires in
       let here : count_by (brings net node) (wire ∷ []) ≡ 1 = rw is refl in
@@ -67,14 +68,17 @@ abbrev brought_so_far : List Wire → ℕ → ℕ → ℕ → ℕ
 brought_so_far wires net node i = count_by (brings net node) (take i wires)
 
 -- where the wire at a place is the first of its pair, there are no others before it
-first_here : (wires : List Wire) → HaveNoEarlier wires → (net node i : ℕ) (default : Wire) → i < length wires → brings net node (get_or wires i default) ≡ true → brought_so_far wires net node i ≡ 0
+first_here : (wires : List Wire) → HaveNoEarlier wires → (net node i : ℕ) (default : Wire) → i < length wires
+    → brings net node (get_or wires i default) ≡ true → brought_so_far wires net node i ≡ 0
 first_here wires once net node i default below is =
     let wire = get_or wires i default in
     let its = brings_is net node wire is in
     let none = each_or-zero (λ number one. is_brought (take number wires) one.net one.to ≡ false) wires once i default below in
     count_none net node (take i wires) (subst (λ (n : ℕ). is_brought (take i wires) net n ≡ false) its.1 (subst (λ (n : ℕ). is_brought (take i wires) n wire.to ≡ false) its.0 none))
 
-one_step : (wires : List Wire) → HaveNoEarlier wires → (net node i : ℕ) (default : Wire) → i < length wires → brought_so_far wires net node i ≤ 1 → (here : Bool) → brings net node (get_or wires i default) ≡ here → brought_so_far wires net node (suc i) ≤ 1
+one_step : (wires : List Wire) → HaveNoEarlier wires → (net node i : ℕ) (default : Wire) → i < length wires
+    → brought_so_far wires net node i ≤ 1 → (here : Bool) → brings net node (get_or wires i default) ≡ here
+    → brought_so_far wires net node (suc i) ≤ 1
 one_step wires once net node i default below few true is =
     let more : i + 1 ≡ suc i = omega arith in
     let none = first_here wires once net node i default below is in
@@ -105,7 +109,9 @@ count_taken wires net node i =
     let whole : count_by (brings net node) (take i wires ++ drop i wires) ≡ count_by (brings net node) wires = ap (count_by (brings net node)) (take-append-drop i wires) in
     omega (arith, parts, whole)
 
-none_earlier : (wires : List Wire) → ((net node : ℕ) → count_by (brings net node) wires ≤ 1) → (i : ℕ) (default : Wire) → i < length wires → (is : Bool) → is_brought (take i wires) (get_or wires i default).net (get_or wires i default).to ≡ is → is_brought (take i wires) (get_or wires i default).net (get_or wires i default).to ≡ false
+none_earlier : (wires : List Wire) → ((net node : ℕ) → count_by (brings net node) wires ≤ 1) → (i : ℕ) (default : Wire) → i < length wires
+    → (is : Bool) → is_brought (take i wires) (get_or wires i default).net (get_or wires i default).to ≡ is
+    → is_brought (take i wires) (get_or wires i default).net (get_or wires i default).to ≡ false
 none_earlier wires few i default below false is = is
 none_earlier wires few i default below true is =
     let wire = get_or wires i default in
@@ -116,7 +122,8 @@ none_earlier wires few i default below true is =
     absurd (omega (arith, one, two, all, most))
 
 -- what is known of all elements is known of one that passes a test
-any_all : {X : Type 0} (P : X → Type 0) (test : X → Bool) (Q : Type 0) (xs : List X) → list_any test xs ≡ true → All P xs → ((x : X) → test x ≡ true → P x → Q) → Q
+any_all : {X : Type 0} (P : X → Type 0) (test : X → Bool) (Q : Type 0) (xs : List X) → list_any test xs ≡ true → All P xs
+    → ((x : X) → test x ≡ true → P x → Q) → Q
 any_all P test Q [] is all step = absurd (true≢false (sym is))
 any_all P test Q (x ∷ xs) is all step =
     ⊎_elim (λ (here : test x ≡ true). step x here (All-head P x xs all)) (λ (there : list_any test xs ≡ true). any_all P test Q xs there (All-tail P x xs all) step) (or_cases (test x) (list_any test xs) is)
@@ -220,7 +227,8 @@ module _ (planned : PlannedBoard) (needs_are : AreNeeds planned.ordered.flat pla
       let wire = get_or plan.wires i default in
       let alone = none_earlier plan.wires (few_wires has) i default below (is_brought (take i plan.wires) wire.net wire.to) refl in
       and_from (needed wire.net wire.to) (not (is_brought (take i plan.wires) wire.net wire.to)) (by (needed wire.net wire.to) refl) (not_from_false (is_brought (take i plan.wires) wire.net wire.to) alone) where
-        by : (is : Bool) → needed (get_or plan.wires i default).net (get_or plan.wires i default).to ≡ is → needed (get_or plan.wires i default).net (get_or plan.wires i default).to ≡ true
+        by : (is : Bool) → needed (get_or plan.wires i default).net (get_or plan.wires i default).to ≡ is
+            → needed (get_or plan.wires i default).net (get_or plan.wires i default).to ≡ true
         by true is = is
         by false is =
             let wire = get_or plan.wires i default in

@@ -13,7 +13,8 @@ use Rattle.vw_plan.specs.Walks.{has_link}
 use Rattle.vw_check.specs.Steps.Rules.{width_between}
 
 -- there is a link where there are pins
-pub has_link-width : (links : List Link) → All (λ link. (1 ≤ link.width) × (link.width ≤ 64)) links → (from to : ℕ) → has_link links from to ≡ not (eqb (width_between links from to) 0)
+pub has_link-width : (links : List Link) → All (λ link. (1 ≤ link.width) × (link.width ≤ 64)) links → (from to : ℕ)
+    → has_link links from to ≡ not (eqb (width_between links from to) 0)
 has_link-width [] wide from to = refl
 has_link-width (link ∷ links) wide from to =
     let wide_at = λ (one : Link). (1 ≤ one.width) × (one.width ≤ 64) in
@@ -26,7 +27,8 @@ has_link-width (link ∷ links) wide from to =
     ⊎_elim if_here if_later (cases_Bool here)
 
 -- no later link has the ends of this one, so none has its pin
-no_later : (link : Link) (links : List Link) (hop : Hop) → All (λ other. ¬ (HaveSameEnds link other)) links → eqb link.from hop.from && eqb link.to hop.to ≡ true → has_pin links hop ≡ false
+no_later : (link : Link) (links : List Link) (hop : Hop) → All (λ other. ¬ (HaveSameEnds link other)) links
+    → eqb link.from hop.from && eqb link.to hop.to ≡ true → has_pin links hop ≡ false
 no_later link links hop once is =
     let ends = and_parts (eqb link.from hop.from) (eqb link.to hop.to) is in
     let from_is = eqb-true link.from hop.from ends.0 in
@@ -38,7 +40,8 @@ no_later link links hop once is =
     once place default within (from_is ∙ sym (eqb-true other.from hop.from others.0), to_is ∙ sym (eqb-true other.to hop.to others.1)))))
 
 -- a hop has a pin of its link where its number is below the link's
-pub has_pin-width : (links : List Link) → AllPairs (λ link other. ¬ (HaveSameEnds link other)) links → (hop : Hop) → has_pin links hop ≡ nat_lt hop.pin (width_between links hop.from hop.to)
+pub has_pin-width : (links : List Link) → AllPairs (λ link other. ¬ (HaveSameEnds link other)) links → (hop : Hop)
+    → has_pin links hop ≡ nat_lt hop.pin (width_between links hop.from hop.to)
 has_pin-width [] once hop = sym (le-ltb hop.pin 0 (omega arith))
 has_pin-width (link ∷ links) once hop =
     let here = eqb link.from hop.from && eqb link.to hop.to in

@@ -19,7 +19,8 @@ use Rattle.vw_check.specs.Faults.{cell_fault, wire_fault}
 
 -- ---- searches that find nothing
 
-none_at : {X Y : Type 0} (found : ℕ → X → Option Y) (from : ℕ) (xs : List X) → first_at found from xs ≡ None → (place : ℕ) (default : X) → place < length xs → found (from + place) (get_or xs place default) ≡ None
+none_at : {X Y : Type 0} (found : ℕ → X → Option Y) (from : ℕ) (xs : List X) → first_at found from xs ≡ None → (place : ℕ) (default : X)
+    → place < length xs → found (from + place) (get_or xs place default) ≡ None
 none_at found from [] none place default within = absurd (omega arith)
 none_at found from (x ∷ xs) none zero default within =
     let here : from ≡ from + 0 = omega arith in
@@ -35,7 +36,8 @@ passed false fault none = cc
 -- ---- what a plan has
 
 -- without a fault of the cells, each cell has a chip
-pub chips_fine : (flat : Flat) (board : Board) (plan : Plan) → cell_fault flat board plan ≡ None → (length plan.chip_of ≡ length flat.cells) × All (λ chip. 1 ≤ chip) plan.chip_of
+pub chips_fine : (flat : Flat) (board : Board) (plan : Plan) → cell_fault flat board plan ≡ None
+    → (length plan.chip_of ≡ length flat.cells) × All (λ chip. 1 ≤ chip) plan.chip_of
 chips_fine flat board plan none =
     let counted = or_none (wrong_cells flat plan.chip_of) (option_or (zero_period plan) (option_or (bad_chip board plan.chip_of) (option_or (overfull board plan.chip_of) None))) none in
     let timed = or_none (zero_period plan) (option_or (bad_chip board plan.chip_of) (option_or (overfull board plan.chip_of) None)) counted.1 in

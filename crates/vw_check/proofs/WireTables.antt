@@ -27,7 +27,9 @@ use Rattle.vw_ready.proofs.WiresBrought.{brings_by_pair, wire_leads}
 
 -- ---- searches that find the same
 
-first_agree : {X Y : Type 0} (found other : ℕ → X → Option Y) (from : ℕ) (xs : List X) → ((place : ℕ) (x : X) → slice_get xs place ≡ Some x → found (from + place) x ≡ other (from + place) x) → first_at found from xs ≡ first_at other from xs
+first_agree : {X Y : Type 0} (found other : ℕ → X → Option Y) (from : ℕ) (xs : List X)
+    → ((place : ℕ) (x : X) → slice_get xs place ≡ Some x → found (from + place) x ≡ other (from + place) x)
+    → first_at found from xs ≡ first_at other from xs
 first_agree found other from [] agree = refl
 first_agree found other from (x ∷ xs) agree =
     let at_first : from + 0 ≡ from = omega arith in
@@ -52,11 +54,14 @@ any_leads test (x ∷ xs) (Some place) leads_to = ap is_some (sym (slice_get-get
 abbrev first_place_from : {X : Type 0} → (X → Bool) → ℕ → List X → Option ℕ
 first_place_from test from xs = first_at (λ place x. found_if (test x) place) from xs
 
-first_pair-place : {X : Type 0} (pair_of : X → ℕ × ℕ) (test : X → Bool) (one other : ℕ) → ((x : X) → test x ≡ is_number_pair one other (pair_of x)) → (from : ℕ) (xs : List X) → first_pair from (map pair_of xs) one other ≡ first_place_from test from xs
+first_pair-place : {X : Type 0} (pair_of : X → ℕ × ℕ) (test : X → Bool) (one other : ℕ)
+    → ((x : X) → test x ≡ is_number_pair one other (pair_of x)) → (from : ℕ) (xs : List X)
+    → first_pair from (map pair_of xs) one other ≡ first_place_from test from xs
 first_pair-place pair_of test one other same from [] = refl
 first_pair-place pair_of test one other same from (x ∷ xs) = ap₂ (λ (here : Bool) (rest : Option ℕ). option_or (found_if here from) rest) (sym (same x)) (first_pair-place pair_of test one other same (suc from) xs)
 
-place_first : {X : Type 0} (test : X → Bool) (from place : ℕ) (x : X) (xs : List X) → slice_get xs place ≡ Some x → test x ≡ true → is_given_number (from + place) (first_place_from test from xs) ≡ not (list_any test (take place xs))
+place_first : {X : Type 0} (test : X → Bool) (from place : ℕ) (x : X) (xs : List X) → slice_get xs place ≡ Some x → test x ≡ true
+    → is_given_number (from + place) (first_place_from test from xs) ≡ not (list_any test (take place xs))
 place_first test from place x [] is passes = cc
 place_first test from zero x (y ∷ ys) is passes =
     let same : y ≡ x = cc in
@@ -86,7 +91,8 @@ module _ {S : Type 0} (flat : Flat) (plan : Plan) (wires : HashMap (ℕ × ℕ) 
       ∙ first_agree (λ _ need. found_unless (is_some (pair_in wires need.net need.to)) (MissingWire need.net need.to)) (λ _ need. found_unless (is_brought plan.wires need.net need.to) (MissingWire need.net need.to)) 0 (needed_pairs flat plan.chip_of) (λ place need at.
       ap (λ (there : Bool). found_unless there (MissingWire need.net need.to)) (any_leads (brings need.net need.to) plan.wires (pair_in wires need.net need.to) (wire_leads plan.wires wires has need.net need.to)))
 
-  first_wire : (number : ℕ) (wire : Wire) → slice_get plan.wires number ≡ Some wire → is_given_number number (pair_in wires wire.net wire.to) ≡ not (is_brought (take number plan.wires) wire.net wire.to)
+  first_wire : (number : ℕ) (wire : Wire) → slice_get plan.wires number ≡ Some wire
+      → is_given_number number (pair_in wires wire.net wire.to) ≡ not (is_brought (take number plan.wires) wire.net wire.to)
   first_wire number wire is =
       let test = brings wire.net wire.to in
       let place = has wire.net wire.to ∙ first_pair-place (λ (one : Wire). (one.net, one.to)) test wire.net wire.to (brings_by_pair wire.net wire.to) 0 plan.wires in
@@ -94,7 +100,9 @@ module _ {S : Type 0} (flat : Flat) (plan : Plan) (wires : HashMap (ℕ × ℕ) 
       let own : test wire ≡ true = rw (eq-eqb wire.net wire.net refl, eq-eqb wire.to wire.to refl) refl in
       ap (is_given_number number) place ∙ subst (λ (count : ℕ). is_given_number count (first_place_from test 0 plan.wires) ≡ not (list_any test (take number plan.wires))) from_first (place_first test 0 number wire plan.wires is own)
 
-  pub extra_by : (list : List Need) (table : HashMap (ℕ × ℕ) ℕ S) → list ≡ needed_pairs flat plan.chip_of → HasPairs (need_pairs list) table → ((net node : ℕ) → list_any (needs.is_pair net node) (needed_pairs flat plan.chip_of) ≡ is_needed flat plan.chip_of net node) → first_extra table wires plan.wires ≡ extra_wire flat plan
+  pub extra_by : (list : List Need) (table : HashMap (ℕ × ℕ) ℕ S) → list ≡ needed_pairs flat plan.chip_of → HasPairs (need_pairs list) table
+      → ((net node : ℕ) → list_any (needs.is_pair net node) (needed_pairs flat plan.chip_of) ≡ is_needed flat plan.chip_of net node)
+      → first_extra table wires plan.wires ≡ extra_wire flat plan
   extra_by list table is has_needs listed =
       first_agree (λ number wire. found_if (is_extra table wires number wire) (ExtraWire number)) (λ number wire. found_unless (is_needed flat plan.chip_of wire.net wire.to && not (is_brought (take number plan.wires) wire.net wire.to)) (ExtraWire number)) 0 plan.wires (λ number wire at.
       let from_first : number ≡ 0 + number = omega arith in

@@ -7,7 +7,7 @@ use Rattle.vw_design.specs.declared.item.Item.{Item}
 use Rattle.vw_design.specs.declared.item.Item.TheVariants.{Names, Latch, Sub}
 use Rattle.vw_design.specs.declared.model.Model.{Model}
 use Rattle.vw_design.specs.declared.design.Design.{Design}
-use Rattle.vw_design.specs.Paths.{Word, Path, Placing, placings, placing_at, model_named, model_placed, model_at, items_of}
+use Rattle.vw_design.specs.Paths.{Word, Path, Placing, placings, model_named, model_placed, model_at, items_of}
 use Rattle.vw_design.specs.Preorder.{sites, paths_of}
 use Rattle.vw_design.specs.Limits.{instance_count}
 use Rattle.vw_design.specs.Counts.{placed_one, items_weight, model_weight}

@@ -1,18 +1,15 @@
 -- Nets that have a bit at each clock: each is one of an instance, and has a number.
-use Rattle.std.proofs.Common.{◌≡◌, ◌<◌, ◌+◌, ℕ, zero, suc, Bool, true, false, true≢false, List, [], ◌∷◌, length, Option, Some, None, option_map, refl, sym, ◌∙◌, ap, subst, arith}
+use Rattle.std.proofs.Common.{◌≡◌, ◌<◌, ◌+◌, ℕ, true, false, true≢false, length, Option, Some, None, option_map, refl, sym, ap, subst, arith}
 use Rattle.std.specs.Str.{bytes_eq}
-use Rattle.std.specs.List.{list_any}
-use Rattle.std.specs.Prelude.{option_and_then, slice_get}
 use Rattle.std.proofs.lemmas.Option.{none-some, slice_get_within}
 use Rattle.vw_design.specs.declared.model.Model.{Model}
 use Rattle.vw_design.specs.declared.design.Design.{Design}
 use Rattle.vw_design.specs.Distinct.{has_name}
 use Rattle.vw_design.specs.Paths.{Word, Path, model_at}
-use Rattle.vw_design.specs.Claims.{claims, first_claim}
-use Rattle.vw_design.specs.Drivers.{Source, at_port, at_cell, ends, turn_by, follow_turn, source_after, driver}
+use Rattle.vw_design.specs.Claims.{first_claim}
+use Rattle.vw_design.specs.Drivers.{Source, at_port, at_cell, turn_by, follow_turn, source_after, driver}
 use Rattle.vw_design.specs.Preorder.{cells}
 use Rattle.vw_design.specs.Clocks.{columns}
-use Rattle.vw_design.specs.PathValue.{place_of_name, place_of_site}
 use Rattle.vw_design.specs.Probes.{has_bit}
 use Rattle.vw_design.specs.Flattened.{number_of_source, number_of}
 use Rattle.vw_design.specs.Accepted.{IsAccepted}

@@ -42,12 +42,14 @@ same_clocks (one ∷ ones) (other ∷ others) none =
     ap₂ (λ (first : List Bool) (more : List (List Bool)). first ∷ more) (same_bits one other parts.0) (same_clocks ones others parts.1)
 
 -- where the outputs are the same, the fault isn't detected
-pub undetected : (flat : Flat) (start : List Bool) (rows : List (List Bool)) (fault : Open) → found_outputs (find_stuck fault) flat start rows ≡ outputs_of flat start rows → is_detected flat start rows fault ≡ false
+pub undetected : (flat : Flat) (start : List Bool) (rows : List (List Bool)) (fault : Open)
+    → found_outputs (find_stuck fault) flat start rows ≡ outputs_of flat start rows → is_detected flat start rows fault ≡ false
 unfolding is_detected
 undetected flat start rows fault same = ap (λ (clocks : List (List Bool)). clocks_differ clocks (outputs_of flat start rows)) same ∙ clocks_differ_self (outputs_of flat start rows)
 
 -- and the other way round
-pub same_outputs : (flat : Flat) (start : List Bool) (rows : List (List Bool)) (fault : Open) → is_detected flat start rows fault ≡ false → found_outputs (find_stuck fault) flat start rows ≡ outputs_of flat start rows
+pub same_outputs : (flat : Flat) (start : List Bool) (rows : List (List Bool)) (fault : Open) → is_detected flat start rows fault ≡ false
+    → found_outputs (find_stuck fault) flat start rows ≡ outputs_of flat start rows
 unfolding is_detected
 same_outputs flat start rows fault none = same_clocks (found_outputs (find_stuck fault) flat start rows) (outputs_of flat start rows) none
 
@@ -56,7 +58,9 @@ or_weaker true later whole further some = refl
 or_weaker false later whole further some = further some
 
 -- the clocks of the first rows are the first of all clocks
-differ_sooner : (find : ℕ → Bool → Bool) (flat : Flat) (state plain : List Bool) (first more : List (List Bool)) → clocks_differ (found_outputs find flat state first) (outputs_of flat plain first) ≡ true → clocks_differ (found_outputs find flat state (first ++ more)) (outputs_of flat plain (first ++ more)) ≡ true
+differ_sooner : (find : ℕ → Bool → Bool) (flat : Flat) (state plain : List Bool) (first more : List (List Bool))
+    → clocks_differ (found_outputs find flat state first) (outputs_of flat plain first) ≡ true
+    → clocks_differ (found_outputs find flat state (first ++ more)) (outputs_of flat plain (first ++ more)) ≡ true
 differ_sooner find flat state plain [] more some = absurd (true≢false (sym some))
 differ_sooner find flat state plain (row ∷ first) more some =
     or_weaker
@@ -66,6 +70,7 @@ differ_sooner find flat state plain (row ∷ first) more some =
     (differ_sooner find flat (found_next_state find flat row state) (next_state flat row plain) first more)
     some
 
-pub detected_sooner : (flat : Flat) (start : List Bool) (first more : List (List Bool)) (fault : Open) → is_detected flat start first fault ≡ true → is_detected flat start (first ++ more) fault ≡ true
+pub detected_sooner : (flat : Flat) (start : List Bool) (first more : List (List Bool)) (fault : Open)
+    → is_detected flat start first fault ≡ true → is_detected flat start (first ++ more) fault ≡ true
 unfolding is_detected
 detected_sooner flat start first more fault some = differ_sooner (find_stuck fault) flat start start first more some

@@ -19,8 +19,11 @@ module _ {inputs : ℕ} {cells : List Cell} {order : List ℕ} (is_order : IsOrd
     net_here = inputs + get_or order place 0
 
     -- where the nets that are ready have their values, its net has its own when what is found of it is written
-    pub more_have_values : (value : ℕ → Bool) (values after : List Bool) (bit : Bool) → inputs + length cells ≤ length values → after ≡ set values net_here bit → bit ≡ find net_here (cover_value cover (map (λ net. slice_index_or values net false) ins))
-        → value net_here ≡ find net_here (cover_value cover (map value ins)) → ((net : ℕ) → is_ready inputs cells (take place order) net ≡ true → slice_index_or values net false ≡ value net) → (net : ℕ) → is_ready inputs cells (take (place + 1) order) net ≡ true → slice_index_or after net false ≡ value net
+    pub more_have_values : (value : ℕ → Bool) (values after : List Bool) (bit : Bool) → inputs + length cells ≤ length values
+        → after ≡ set values net_here bit → bit ≡ find net_here (cover_value cover (map (λ net. slice_index_or values net false) ins))
+        → value net_here ≡ find net_here (cover_value cover (map value ins))
+        → ((net : ℕ) → is_ready inputs cells (take place order) net ≡ true → slice_index_or values net false ≡ value net) → (net : ℕ)
+        → is_ready inputs cells (take (place + 1) order) net ≡ true → slice_index_or after net false ≡ value net
     more_have_values value values after bit fits written is its have net ready =
         let other = λ (at : ℕ). slice_index_or values at false in
         let agree : All (λ at. other at ≡ value at) ins = All-weaker (λ at. is_ready inputs cells (take place order) at ≡ true) (λ at. other at ≡ value at) have ins (reads_ready is_order place within ins cover here) in

@@ -20,8 +20,10 @@ use Rattle.vw_fault.specs.Steps.Lanes.{find_in, lane_bits}
 use Rattle.vw_fault.specs.Stuck.{bits_differ, clocks_differ, differ, find_stuck, is_detected}
 
 -- one output more
-pub output_further : (value : ℕ → Bool) (nets : List ℕ) (plain : List Bool) (place : ℕ) (seen new here whole : Bool) → place < length nets → place < length plain → here ≡ differ (value (get_or nets place 0)) (get_or plain place false) → new ≡ (seen || here)
-    → (seen || bits_differ (map value (drop place nets)) (drop place plain)) ≡ whole → (new || bits_differ (map value (drop (place + 1) nets)) (drop (place + 1) plain)) ≡ whole
+pub output_further : (value : ℕ → Bool) (nets : List ℕ) (plain : List Bool) (place : ℕ) (seen new here whole : Bool) → place < length nets
+    → place < length plain → here ≡ differ (value (get_or nets place 0)) (get_or plain place false) → new ≡ (seen || here)
+    → (seen || bits_differ (map value (drop place nets)) (drop place plain)) ≡ whole
+    → (new || bits_differ (map value (drop (place + 1) nets)) (drop (place + 1) plain)) ≡ whole
 output_further value nets plain place seen new here whole within inside is both so_far =
     let rest = bits_differ (map value (drop (place + 1) nets)) (drop (place + 1) plain) in
     ap (λ (b : Bool). b || rest) (both ∙ ap (λ (b : Bool). seen || b) is)
@@ -30,7 +32,8 @@ output_further value nets plain place seen new here whole within inside is both 
     ∙ so_far
 
 -- all of them
-pub outputs_end : (value : ℕ → Bool) (nets : List ℕ) (plain : List Bool) (place : ℕ) (seen whole : Bool) → length nets ≤ place → length plain ≤ place → (seen || bits_differ (map value (drop place nets)) (drop place plain)) ≡ whole → seen ≡ whole
+pub outputs_end : (value : ℕ → Bool) (nets : List ℕ) (plain : List Bool) (place : ℕ) (seen whole : Bool) → length nets ≤ place
+    → length plain ≤ place → (seen || bits_differ (map value (drop place nets)) (drop place plain)) ≡ whole → seen ≡ whole
 outputs_end value nets plain place seen whole past behind so_far =
     none seen ∙ sym (ap₂ (λ (ns : List ℕ) (bs : List Bool). seen || bits_differ (map value ns) bs) (drop_all place nets past) (drop_all place plain behind)) ∙ so_far where
       none : (value : Bool) → value ≡ (value || false)
@@ -38,9 +41,11 @@ outputs_end value nets plain place seen whole past behind so_far =
       none false = refl
 
 -- one clock more
-pub clock_further : (find : ℕ → Bool → Bool) (flat : Flat) (state after row clock : List Bool) (rows plain : List (List Bool)) (place : ℕ) (seen new whole : Bool) → place < length rows → place < length plain → row ≡ get_or rows place row → clock ≡ get_or plain place clock
+pub clock_further : (find : ℕ → Bool → Bool) (flat : Flat) (state after row clock : List Bool) (rows plain : List (List Bool)) (place : ℕ) (seen new whole : Bool)
+    → place < length rows → place < length plain → row ≡ get_or rows place row → clock ≡ get_or plain place clock
     → after ≡ found_next_state find flat row state → new ≡ (seen || bits_differ (found_outputs_at find flat row state) clock)
-    → (seen || clocks_differ (found_outputs find flat state (drop place rows)) (drop place plain)) ≡ whole → (new || clocks_differ (found_outputs find flat after (drop (place + 1) rows)) (drop (place + 1) plain)) ≡ whole
+    → (seen || clocks_differ (found_outputs find flat state (drop place rows)) (drop place plain)) ≡ whole
+    → (new || clocks_differ (found_outputs find flat after (drop (place + 1) rows)) (drop (place + 1) plain)) ≡ whole
 clock_further find flat state after row clock rows plain place seen new whole within inside row_is clock_is step both so_far =
     let later = λ (s : List Bool). clocks_differ (found_outputs find flat s (drop (place + 1) rows)) (drop (place + 1) plain) in
     let row_cut = drop_more rows place row within ∙ ap (λ (r : List Bool). r ∷ drop (place + 1) rows) (sym row_is) in
@@ -51,7 +56,9 @@ clock_further find flat state after row clock rows plain place seen new whole wi
     ∙ so_far
 
 -- all of them
-pub clocks_end : (find : ℕ → Bool → Bool) (flat : Flat) (state : List Bool) (rows plain : List (List Bool)) (place : ℕ) (seen whole : Bool) → length rows ≤ place → length plain ≤ place → (seen || clocks_differ (found_outputs find flat state (drop place rows)) (drop place plain)) ≡ whole → seen ≡ whole
+pub clocks_end : (find : ℕ → Bool → Bool) (flat : Flat) (state : List Bool) (rows plain : List (List Bool)) (place : ℕ) (seen whole : Bool)
+    → length rows ≤ place → length plain ≤ place
+    → (seen || clocks_differ (found_outputs find flat state (drop place rows)) (drop place plain)) ≡ whole → seen ≡ whole
 clocks_end find flat state rows plain place seen whole past behind so_far =
     none seen ∙ sym (ap₂ (λ (rs ps : List (List Bool)). seen || clocks_differ (found_outputs find flat state rs) ps) (drop_all place rows past) (drop_all place plain behind)) ∙ so_far where
       none : (value : Bool) → value ≡ (value || false)
@@ -59,27 +66,33 @@ clocks_end find flat state rows plain place seen whole past behind so_far =
       none false = refl
 
 -- where each net has what is found of it, so have the outputs
-pub outputs-from_found : (find : ℕ → Bool → Bool) (flat : Flat) (row state : List Bool) (value : ℕ → Bool) → ((net : ℕ) → net < flat.inputs + length flat.cells → value net ≡ found_value find flat row state net) → map value flat.outputs ≡ found_outputs_at find flat row state
+pub outputs-from_found : (find : ℕ → Bool → Bool) (flat : Flat) (row state : List Bool) (value : ℕ → Bool)
+    → ((net : ℕ) → net < flat.inputs + length flat.cells → value net ≡ found_value find flat row state net)
+    → map value flat.outputs ≡ found_outputs_at find flat row state
 outputs-from_found find flat row state value have =
     let nets = flat.inputs + length flat.cells in
     let found = found_value find flat row state in
     map_agree value found flat.outputs (All-weaker (λ net. net < nets) (λ net. value net ≡ found net) have flat.outputs flat.outputs_fit)
 
 -- each clock has as many outputs as the netlist
-pub even_clocks : (flat : Flat) (state : List Bool) (rows : List (List Bool)) (place : ℕ) (default : List Bool) → place < length rows → length (get_or (outputs_of flat state rows) place default) ≡ length flat.outputs
+pub even_clocks : (flat : Flat) (state : List Bool) (rows : List (List Bool)) (place : ℕ) (default : List Bool) → place < length rows
+    → length (get_or (outputs_of flat state rows) place default) ≡ length flat.outputs
 even_clocks flat state [] place default within = absurd (omega (arith, within))
 even_clocks flat state (row ∷ rows) zero default within = length-outputs_at flat row state
 even_clocks flat state (row ∷ rows) (suc place) default within = even_clocks flat (next_state flat row state) rows place default (omega (arith, within))
 
 -- faults whose lanes aren't seen are those of which a test doesn't hold
-pub left_filtered : (seen lane : ℕ) (test : Open → Bool) (faults : List Open) → ((place : ℕ) (fault : Open) → slice_get faults place ≡ Some fault → bit_of seen (lane + place) ≡ test fault) → left_open seen lane faults ≡ filter (λ fault. not (test fault)) faults
+pub left_filtered : (seen lane : ℕ) (test : Open → Bool) (faults : List Open)
+    → ((place : ℕ) (fault : Open) → slice_get faults place ≡ Some fault → bit_of seen (lane + place) ≡ test fault)
+    → left_open seen lane faults ≡ filter (λ fault. not (test fault)) faults
 left_filtered seen lane test [] is = refl
 left_filtered seen lane test (fault ∷ faults) is =
     let none : lane + 0 ≡ lane = omega arith in
     let here : bit_of seen lane ≡ test fault = ap (bit_of seen) (sym none) ∙ is 0 fault refl in
     let more = left_filtered seen (lane + 1) test faults (λ place one its. let further : lane + 1 + place ≡ lane + suc place = omega arith in ap (bit_of seen) further ∙ is (suc place) one its) in
     ap₂ (λ (b : Bool) (rest : List Open). if b then rest else fault ∷ rest) here more ∙ by (test fault) where
-      by : (value : Bool) → (if value then filter (λ one. not (test one)) faults else fault ∷ filter (λ one. not (test one)) faults) ≡ (if not value then fault ∷ filter (λ one. not (test one)) faults else filter (λ one. not (test one)) faults)
+      by : (value : Bool)
+          → (if value then filter (λ one. not (test one)) faults else fault ∷ filter (λ one. not (test one)) faults) ≡ (if not value then fault ∷ filter (λ one. not (test one)) faults else filter (λ one. not (test one)) faults)
       by true = refl
       by false = refl
 
@@ -99,7 +112,8 @@ pub plain_size : (grading : Grading) → length (plain_of grading) ≡ grading.c
 plain_size grading = length-take-le grading.count grading.plain.now (omega (arith, grading.counted, plain_length grading))
 
 -- the outputs of the first rows
-pub outputs_of-take : (flat : Flat) (state : List Bool) (count : ℕ) (rows : List (List Bool)) → take count (outputs_of flat state rows) ≡ outputs_of flat state (take count rows)
+pub outputs_of-take : (flat : Flat) (state : List Bool) (count : ℕ) (rows : List (List Bool))
+    → take count (outputs_of flat state rows) ≡ outputs_of flat state (take count rows)
 outputs_of-take flat state zero rows = refl
 outputs_of-take flat state (suc count) [] = refl
 outputs_of-take flat state (suc count) (row ∷ rows) = ap (λ (more : List (List Bool)). outputs_at flat row state ∷ more) (outputs_of-take flat (next_state flat row state) count rows)
@@ -119,7 +133,8 @@ among_first xs count place x is low = sym (get_or-take count xs place x low ∙ 
 
 -- the lane of a fault is seen exactly where the rows reveal it
 pub seen_is : (grading : Grading) (stuck : Stuck) (state : List ℕ) (seen idle lane : ℕ) (fault : Open)
-    → bit_of seen lane ≡ (bit_of idle lane || clocks_differ (found_outputs (find_in stuck lane) grading.ordered.now.flat (lane_bits lane state) (rows_of grading)) (plain_of grading)) → bit_of idle lane ≡ false → lane_bits lane state ≡ grading.start.now
+    → bit_of seen lane ≡ (bit_of idle lane || clocks_differ (found_outputs (find_in stuck lane) grading.ordered.now.flat (lane_bits lane state) (rows_of grading)) (plain_of grading))
+    → bit_of idle lane ≡ false → lane_bits lane state ≡ grading.start.now
     → ((net : ℕ) (bit : Bool) → find_in stuck lane net bit ≡ find_stuck fault net bit) → bit_of seen lane ≡ is_seen grading fault
 unfolding is_detected
 seen_is grading stuck state seen idle lane fault is not_idle begins found =
@@ -131,7 +146,8 @@ seen_is grading stuck state seen idle lane fault is not_idle begins found =
     ∙ ap (clocks_differ (found_outputs (find_stuck fault) flat grading.start.now (rows_of grading))) (plain_run grading)
 
 -- a group more
-pub group_further : (test : Open → Bool) (rest front back left new whole : List Open) (count : ℕ) → front ≡ take count rest → back ≡ drop count rest → new ≡ left ++ filter test front → left ++ filter test rest ≡ whole → new ++ filter test back ≡ whole
+pub group_further : (test : Open → Bool) (rest front back left new whole : List Open) (count : ℕ) → front ≡ take count rest
+    → back ≡ drop count rest → new ≡ left ++ filter test front → left ++ filter test rest ≡ whole → new ++ filter test back ≡ whole
 group_further test rest front back left new whole count first second added so_far =
     let together : front ++ back ≡ rest = ap₂ (λ (f b : List Open). f ++ b) first second ∙ take-append-drop count rest in
     ap (λ (all : List Open). all ++ filter test back) added

@@ -84,7 +84,8 @@ choose true false false = refl
 choose false one true = refl
 choose false one false = refl
 
-pub lane_chosen : (by one other lane : ℕ) → bit_of (bit_xor other (bit_and by (bit_xor one other))) lane ≡ (if bit_of by lane then bit_of one lane else bit_of other lane)
+pub lane_chosen : (by one other lane : ℕ)
+    → bit_of (bit_xor other (bit_and by (bit_xor one other))) lane ≡ (if bit_of by lane then bit_of one lane else bit_of other lane)
 lane_chosen by one other lane =
     lane_xor other (bit_and by (bit_xor one other)) lane
     ∙ ap (differ (bit_of other lane)) (lane_and by (bit_xor one other) lane ∙ ap (λ (x : Bool). bit_of by lane && x) (lane_xor one other lane))
@@ -95,7 +96,8 @@ pub lane_at : (lane : ℕ) (words : List ℕ) (at : ℕ) → get_or (lane_bits l
 lane_at lane words at = ap (get_or (lane_bits lane words) at) (sym (lane_none lane)) ∙ get_or-map (λ (word : ℕ). bit_of word lane) words at 0
 
 -- what is found of a word
-pub lane_found : (stuck : Stuck) (net word kept forced lane : ℕ) → net < length stuck.kept → kept ≡ get_or stuck.kept net 0 → forced ≡ get_or stuck.forced net 0 → bit_of (bit_or (bit_and word kept) forced) lane ≡ find_in stuck lane net (bit_of word lane)
+pub lane_found : (stuck : Stuck) (net word kept forced lane : ℕ) → net < length stuck.kept → kept ≡ get_or stuck.kept net 0
+    → forced ≡ get_or stuck.forced net 0 → bit_of (bit_or (bit_and word kept) forced) lane ≡ find_in stuck lane net (bit_of word lane)
 lane_found stuck net word kept forced lane within is_kept is_forced =
     let its = is_kept ∙ get_or_default stuck.kept net 0 (2 ^ 64 - 1) within in
     lane_or (bit_and word kept) forced lane
@@ -104,15 +106,18 @@ lane_found stuck net word kept forced lane within is_kept is_forced =
     (ap (λ (n : ℕ). bit_of n lane) is_forced)
 
 -- a word that is written, lane by lane
-pub lane_set : (lane : ℕ) (words after : List ℕ) (at word : ℕ) → after ≡ set words at word → lane_bits lane after ≡ set (lane_bits lane words) at (bit_of word lane)
+pub lane_set : (lane : ℕ) (words after : List ℕ) (at word : ℕ) → after ≡ set words at word
+    → lane_bits lane after ≡ set (lane_bits lane words) at (bit_of word lane)
 lane_set lane words after at word written = ap (lane_bits lane) written ∙ map-set (λ (one : ℕ). bit_of one lane) words at word
 
 pub length-lane_bits : (lane : ℕ) (words : List ℕ) → length (lane_bits lane words) ≡ length words
 length-lane_bits lane words = length-map words (λ (word : ℕ). bit_of word lane)
 
 -- one input more
-pub input_further : (find : ℕ → Bool → Bool) (lane : ℕ) (words after : List ℕ) (row : List Bool) (place word : ℕ) → place < length words → after ≡ set words place word → bit_of word lane ≡ find place (get_or row place false)
-    → ((net : ℕ) → net < place → get_or (lane_bits lane words) net false ≡ find net (get_or row net false)) → (net : ℕ) → net < place + 1 → get_or (lane_bits lane after) net false ≡ find net (get_or row net false)
+pub input_further : (find : ℕ → Bool → Bool) (lane : ℕ) (words after : List ℕ) (row : List Bool) (place word : ℕ) → place < length words
+    → after ≡ set words place word → bit_of word lane ≡ find place (get_or row place false)
+    → ((net : ℕ) → net < place → get_or (lane_bits lane words) net false ≡ find net (get_or row net false)) → (net : ℕ) → net < place + 1
+    → get_or (lane_bits lane after) net false ≡ find net (get_or row net false)
 input_further find lane words after row place word within written is before net inside =
     let bit = bit_of word lane in
     let size = length-lane_bits lane words in
@@ -125,7 +130,9 @@ pub lane_below : (used lane : ℕ) → lane < used → bit_of (2 ^ used - 1) lan
 lane_below used lane within = bit_of-is (2 ^ used - 1) lane ∙ ap (λ (n : ℕ). n == 1) (bit_at_ones used lane within)
 
 -- one bit more in every lane
-pub bit_further : (lane : ℕ) (words after : List ℕ) (bits : List Bool) (place word : ℕ) → place < length words → place < length bits → after ≡ set words place word → bit_of word lane ≡ get_or bits place false → take place (lane_bits lane words) ≡ take place bits → take (place + 1) (lane_bits lane after) ≡ take (place + 1) bits
+pub bit_further : (lane : ℕ) (words after : List ℕ) (bits : List Bool) (place word : ℕ) → place < length words → place < length bits
+    → after ≡ set words place word → bit_of word lane ≡ get_or bits place false → take place (lane_bits lane words) ≡ take place bits
+    → take (place + 1) (lane_bits lane after) ≡ take (place + 1) bits
 bit_further lane words after bits place word within inside written is so_far =
     let size = length-lane_bits lane words in
     ap (take (place + 1)) (lane_set lane words after place word written)

@@ -17,7 +17,8 @@ module _ (marks : List Bool) where
   AreMarked nets = All (λ net. is_marked marks net ≡ true) nets
 
   -- one cell more
-  pub cell_further : (first : ℕ) (cells : List Cell) (place : ℕ) (cell : Cell) → slice_get cells place ≡ Some cell → (is_marked marks (first + place) ≡ true → AreMarked (read_nets cell))
+  pub cell_further : (first : ℕ) (cells : List Cell) (place : ℕ) (cell : Cell) → slice_get cells place ≡ Some cell
+      → (is_marked marks (first + place) ≡ true → AreMarked (read_nets cell))
       → ((number : ℕ) → number < place → is_marked marks (first + number) ≡ true → AreMarked (read_nets_at (slice_get cells number)))
       → (number : ℕ) → number < place + 1 → is_marked marks (first + number) ≡ true → AreMarked (read_nets_at (slice_get cells number))
   cell_further first cells place cell here its before number within marked = ⊎_elim if_here if_before (cases_eq number place) where
@@ -29,7 +30,8 @@ module _ (marks : List Bool) where
 
   -- all of them
   pub closed_by : (flat : Flat) (place : ℕ) → length flat.cells ≤ place → AreMarked flat.outputs
-      → ((number : ℕ) → number < place → is_marked marks (flat.inputs + number) ≡ true → AreMarked (read_nets_at (slice_get flat.cells number))) → IsClosedByReading flat (is_marked marks)
+      → ((number : ℕ) → number < place → is_marked marks (flat.inputs + number) ≡ true → AreMarked (read_nets_at (slice_get flat.cells number)))
+      → IsClosedByReading flat (is_marked marks)
   closed_by flat place past outputs before = record { outputs = outputs; reads = reads } where
     reads : (number : ℕ) → is_marked marks (flat.inputs + number) ≡ true → AreMarked (read_nets_at (slice_get flat.cells number))
     reads number marked =
@@ -40,7 +42,8 @@ module _ (marks : List Bool) where
 
 -- ---- faults of marked nets among others
 
-passes_here : (test : Open → Bool) (fault one : Open) (more faults : List Open) → (fault ∷ more ≡ filter test faults → test fault ≡ true) → (passes : Bool) → test one ≡ passes → fault ∷ more ≡ filter test (one ∷ faults) → test fault ≡ true
+passes_here : (test : Open → Bool) (fault one : Open) (more faults : List Open) → (fault ∷ more ≡ filter test faults → test fault ≡ true)
+    → (passes : Bool) → test one ≡ passes → fault ∷ more ≡ filter test (one ∷ faults) → test fault ≡ true
 passes_here test fault one more faults later true passes is =
     let same : fault ∷ more ≡ one ∷ filter test faults = rw passes at is in
     ap test (same_Some fault one (ap (λ (list : List Open). slice_get list 0) same)) ∙ passes
@@ -69,7 +72,8 @@ module _ (keep test : Open → Bool) (fault : Open) (rest left all whole : List 
   past_unmarked unmarked = ((rw unmarked at are), with_fault (rw unmarked refl))
 
   -- a fault that is left
-  pub past_left : keep fault ≡ true → slice_get left next ≡ Some fault → (drop (next + 1) left ≡ filter test (filter keep rest)) × ((all ++ fault ∷ []) ++ filter listed rest ≡ whole)
+  pub past_left : keep fault ≡ true → slice_get left next ≡ Some fault
+      → (drop (next + 1) left ≡ filter test (filter keep rest)) × ((all ++ fault ∷ []) ++ filter listed rest ≡ whole)
   past_left marked here = by (test fault) refl where
     cut : fault ∷ drop (next + 1) left ≡ filter test (fault ∷ filter keep rest)
     cut = sym (drop_at left next fault here) ∙ (rw marked at are)
@@ -79,7 +83,8 @@ module _ (keep test : Open → Bool) (fault : Open) (rest left all whole : List 
     by false passes = absurd (true≢false (sym (head_passes test fault (drop (next + 1) left) (filter keep rest) (rw passes at cut)) ∙ passes))
 
   -- a fault that was revealed
-  pub past_revealed : keep fault ≡ true → (slice_get left next ≡ Some fault → ⊥) → (drop next left ≡ filter test (filter keep rest)) × (all ++ filter listed rest ≡ whole)
+  pub past_revealed : keep fault ≡ true → (slice_get left next ≡ Some fault → ⊥)
+      → (drop next left ≡ filter test (filter keep rest)) × (all ++ filter listed rest ≡ whole)
   past_revealed marked other = by (test fault) refl where
     now : drop next left ≡ filter test (fault ∷ filter keep rest)
     now = rw marked at are

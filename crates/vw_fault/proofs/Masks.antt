@@ -22,7 +22,8 @@ filled (suc count) zero x = refl
 filled (suc count) (suc at) x = filled count at x
 
 -- where each word of a net keeps each lane and forces none, each net is found as it is
-pub none_stuck : (stuck : Stuck) (nets lane net : ℕ) (bit : Bool) → lane < 64 → stuck.kept ≡ replicate nets (2 ^ 64 - 1) → stuck.forced ≡ replicate nets 0 → find_in stuck lane net bit ≡ bit
+pub none_stuck : (stuck : Stuck) (nets lane net : ℕ) (bit : Bool) → lane < 64 → stuck.kept ≡ replicate nets (2 ^ 64 - 1)
+    → stuck.forced ≡ replicate nets 0 → find_in stuck lane net bit ≡ bit
 none_stuck stuck nets lane net bit low kept forced =
     ap₂ (λ (k f : List ℕ). (bit && bit_of (get_or k net (2 ^ 64 - 1)) lane) || bit_of (get_or f net 0) lane) kept forced
     ∙ ap₂ (λ (k f : ℕ). (bit && bit_of k lane) || bit_of f lane) (filled nets net (2 ^ 64 - 1)) (filled nets net 0)
@@ -97,7 +98,8 @@ module _ (old new : Stuck) (lane own others spread : ℕ) (fault : Open) (inside
       ⊎_elim if_here if_other (cases_eq net fault.net)
 
   -- the fault is in its lane, and the other lanes are as they were
-  pub put_found : lane < 64 → (other : ℕ) → other < 64 → (net : ℕ) (bit : Bool) → find_in new other net bit ≡ (if other == lane then find_stuck fault net (find_in old other net bit) else find_in old other net bit)
+  pub put_found : lane < 64 → (other : ℕ) → other < 64 → (net : ℕ) (bit : Bool)
+      → find_in new other net bit ≡ (if other == lane then find_stuck fault net (find_in old other net bit) else find_in old other net bit)
   put_found lane_low other low net bit =
       let whole = λ (here : Bool). if here then find_stuck fault net (find_in old other net bit) else find_in old other net bit in
       let if_own = λ (same : other ≡ lane).
@@ -114,8 +116,10 @@ module _ (old new : Stuck) (faults : List Open) (place : ℕ) (fault : Open) (he
       let apart : lane ≡ place → ⊥ = λ same. omega (arith, past, same) in
       found lane low net bit ∙ ap (λ (its : Bool). if its then find_stuck fault net (find_in old lane net bit) else find_in old lane net bit) (ne_eqb lane place apart) ∙ plain lane low (omega (arith, past)) net bit
 
-  pub put_further : place < 64 → ((lane : ℕ) (one : Open) → lane < place → slice_get faults lane ≡ Some one → (net : ℕ) (bit : Bool) → find_in old lane net bit ≡ find_stuck one net bit)
-      → (lane : ℕ) (one : Open) → lane < place + 1 → slice_get faults lane ≡ Some one → (net : ℕ) (bit : Bool) → find_in new lane net bit ≡ find_stuck one net bit
+  pub put_further : place < 64
+      → ((lane : ℕ) (one : Open) → lane < place → slice_get faults lane ≡ Some one → (net : ℕ) (bit : Bool) → find_in old lane net bit ≡ find_stuck one net bit)
+      → (lane : ℕ) (one : Open) → lane < place + 1 → slice_get faults lane ≡ Some one → (net : ℕ) (bit : Bool)
+      → find_in new lane net bit ≡ find_stuck one net bit
   put_further low before lane one within is net bit = ⊎_elim if_own if_before (cases_eq lane place) where
     if_own : lane ≡ place → find_in new lane net bit ≡ find_stuck one net bit
     if_own same =

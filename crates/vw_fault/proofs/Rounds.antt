@@ -19,7 +19,8 @@ use Rattle.vw_fault.proofs.Differences.{detected_sooner}
 use Rattle.vw_fault.proofs.Groups.{outputs-from_found}
 use Rattle.vw_fault.proofs.Unreached.{unreached}
 
-one_more : {X : Type 0} (test weaker : X → Bool) → ((x : X) → test x ≡ true → weaker x ≡ true) → (x : X) (xs : List X) → filter test (filter weaker xs) ≡ filter test xs
+one_more : {X : Type 0} (test weaker : X → Bool) → ((x : X) → test x ≡ true → weaker x ≡ true) → (x : X) (xs : List X)
+    → filter test (filter weaker xs) ≡ filter test xs
     → (passes passes_weaker : Bool) → test x ≡ passes → weaker x ≡ passes_weaker → filter test (filter weaker (x ∷ xs)) ≡ filter test (x ∷ xs)
 one_more test weaker further x xs rest true true is is_weaker = rw (is_weaker, is) (ap (λ (more : List _). x ∷ more) rest)
 one_more test weaker further x xs rest true false is is_weaker = absurd (true≢false (sym (further x is) ∙ is_weaker))
@@ -27,7 +28,8 @@ one_more test weaker further x xs rest false true is is_weaker = rw (is_weaker, 
 one_more test weaker further x xs rest false false is is_weaker = rw (is_weaker, is) rest
 
 -- a weaker test before another leaves what the other alone leaves
-filtered_again : {X : Type 0} (test weaker : X → Bool) → ((x : X) → test x ≡ true → weaker x ≡ true) → (xs : List X) → filter test (filter weaker xs) ≡ filter test xs
+filtered_again : {X : Type 0} (test weaker : X → Bool) → ((x : X) → test x ≡ true → weaker x ≡ true) → (xs : List X)
+    → filter test (filter weaker xs) ≡ filter test xs
 filtered_again test weaker further [] = refl
 filtered_again test weaker further (x ∷ xs) = one_more test weaker further x xs (filtered_again test weaker further xs) (test x) (weaker x) refl refl
 
@@ -66,8 +68,10 @@ faults_within (suc nets) =
     All-append fits (gather net_faults nets) (net_faults nets) before own
 
 -- one clock more of the plain outputs
-pub plain_further : (flat : Flat) (find : ℕ → Bool → Bool) (state after row bits : List Bool) (value : ℕ → Bool) (rows made new whole : List (List Bool)) (place : ℕ) → place < length rows → row ≡ get_or rows place row → find ≡ as_it_is
-    → ((net : ℕ) → net < flat.inputs + length flat.cells → value net ≡ found_value find flat row state net) → bits ≡ map value flat.outputs → after ≡ found_next_state find flat row state → new ≡ made ++ bits ∷ []
+pub plain_further : (flat : Flat) (find : ℕ → Bool → Bool) (state after row bits : List Bool) (value : ℕ → Bool) (rows made new whole : List (List Bool)) (place : ℕ)
+    → place < length rows → row ≡ get_or rows place row → find ≡ as_it_is
+    → ((net : ℕ) → net < flat.inputs + length flat.cells → value net ≡ found_value find flat row state net) → bits ≡ map value flat.outputs
+    → after ≡ found_next_state find flat row state → new ≡ made ++ bits ∷ []
     → made ++ found_outputs as_it_is flat state (drop place rows) ≡ whole → new ++ found_outputs as_it_is flat after (drop (place + 1) rows) ≡ whole
 plain_further flat find state after row bits value rows made new whole place within is plain have are step more so_far =
     let cut = drop_more rows place row within ∙ ap (λ (r : List Bool). r ∷ drop (place + 1) rows) (sym is) in
@@ -81,8 +85,11 @@ plain_further flat find state after row bits value rows made new whole place wit
     ∙ so_far
 
 -- a fault of a net that reaches no output isn't seen, so it need not be looked for
-pub unreached_listed : (grading : Grading) (marks : List Bool) → IsClosedByReading grading.ordered.now.flat (is_marked marks) → (faults : List Open) → filter (λ fault. not (is_marked marks fault.net) || not (is_seen grading fault)) faults ≡ open_of grading faults
+pub unreached_listed : (grading : Grading) (marks : List Bool) → IsClosedByReading grading.ordered.now.flat (is_marked marks)
+    → (faults : List Open)
+    → filter (λ fault. not (is_marked marks fault.net) || not (is_seen grading fault)) faults ≡ open_of grading faults
 unreached_listed grading marks closed faults = ap (λ (test : Open → Bool). filter test faults) (fun_ext (λ fault. by fault (is_marked marks fault.net) refl)) where
-  by : (fault : Open) (marked : Bool) → is_marked marks fault.net ≡ marked → (not (is_marked marks fault.net) || not (is_seen grading fault)) ≡ not (is_seen grading fault)
+  by : (fault : Open) (marked : Bool) → is_marked marks fault.net ≡ marked
+      → (not (is_marked marks fault.net) || not (is_seen grading fault)) ≡ not (is_seen grading fault)
   by fault true is = rw is refl
   by fault false is = rw is (sym (ap not (unreached grading.ordered.now.flat grading.start.now (rows_of grading) fault (is_marked marks) closed is)))

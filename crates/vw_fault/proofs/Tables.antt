@@ -24,12 +24,15 @@ place_of-last_none [] = refl
 place_of-last_none (bit ∷ bits) = ap (λ (n : ℕ). (if bit then 1 else 0) + 2 * n) (place_of-last_none bits)
 
 -- the upper half where the last input is 1, and the lower half where it is 0
-halves : (table : ℕ) (bits : List Bool) (last : Bool) → (if last then bit_of (table / 2 ^ 2 ^ length bits) (place_of bits) else bit_of table (place_of bits)) ≡ bit_of table (place_of (bits ++ last ∷ []))
+halves : (table : ℕ) (bits : List Bool) (last : Bool)
+    → (if last then bit_of (table / 2 ^ 2 ^ length bits) (place_of bits) else bit_of table (place_of bits)) ≡ bit_of table (place_of (bits ++ last ∷ []))
 halves table bits true = bit_of-further table (2 ^ length bits) (place_of bits) ∙ ap (bit_of table) (sym (place_of-last_one bits))
 halves table bits false = ap (bit_of table) (sym (place_of-last_none bits))
 
 -- so a table of one input more is a choice between two
-pub one_more_input : (table : ℕ) (bits : List Bool) (last chosen high low : Bool) → chosen ≡ (if last then high else low) → high ≡ bit_of (table / 2 ^ 2 ^ length bits) (place_of bits) → low ≡ bit_of table (place_of bits) → chosen ≡ bit_of table (place_of (bits ++ last ∷ []))
+pub one_more_input : (table : ℕ) (bits : List Bool) (last chosen high low : Bool) → chosen ≡ (if last then high else low)
+    → high ≡ bit_of (table / 2 ^ 2 ^ length bits) (place_of bits) → low ≡ bit_of table (place_of bits)
+    → chosen ≡ bit_of table (place_of (bits ++ last ∷ []))
 one_more_input table bits last chosen high low is is_high is_low = is ∙ ap₂ (λ (x y : Bool). if last then x else y) is_high is_low ∙ halves table bits last
 
 -- its lowest bit
@@ -57,7 +60,8 @@ abbrev pub tables_over : ℕ → List ℕ
 tables_over word = 0 ∷ bit_xor word (2 ^ 64 - 1) ∷ word ∷ (2 ^ 64 - 1) ∷ []
 
 -- so the two lowest bits of a table say which of them it is of its first input
-pub one_input : (table word result default lane : ℕ) → lane < 64 → result ≡ get_or (tables_over word) (table % 4) default → bit_of result lane ≡ bit_of table (place_of (bit_of word lane ∷ []))
+pub one_input : (table word result default lane : ℕ) → lane < 64 → result ≡ get_or (tables_over word) (table % 4) default
+    → bit_of result lane ≡ bit_of table (place_of (bit_of word lane ∷ []))
 one_input table word result default lane low is = one_more_input table [] (bit_of word lane) (bit_of result lane) high_bit low_bit (ap (λ (n : ℕ). bit_of n lane) is ∙ by (table % 4) refl) (sym (lowest (table / 2 ^ 2 ^ 0))) (sym (lowest table)) where
   high_bit : Bool
   high_bit = (table / 2 ^ 2 ^ 0) % 2 == 1
@@ -84,7 +88,9 @@ listed (suc count) from xs size =
     ap (λ (rest : List ℕ). get_or xs from 0 ∷ rest) (listed count (suc from) xs (omega arith) ∙ ap (λ (at : ℕ). drop at xs) next) ∙ sym (drop_more xs from 0 (omega arith))
 
 -- the value of a table of few inputs, by its truth table
-pub by_table : (table : Table) (count : ℕ) (ins : List ℕ) (bit : ℕ → Bool) (number : ℕ) (result : Bool) → count ≤ 6 → length ins ≡ count → length ins ≡ table.inputs → number ≡ truth_table table → result ≡ bit_of number (place_of (map bit (elements count 0 ins))) → result ≡ cover_value table (map bit ins)
+pub by_table : (table : Table) (count : ℕ) (ins : List ℕ) (bit : ℕ → Bool) (number : ℕ) (result : Bool) → count ≤ 6 → length ins ≡ count
+    → length ins ≡ table.inputs → number ≡ truth_table table → result ≡ bit_of number (place_of (map bit (elements count 0 ins)))
+    → result ≡ cover_value table (map bit ins)
 by_table table count ins bit number result few size arity number_is is =
     let whole : 0 + count ≡ length ins = omega (arith, size) in
     is

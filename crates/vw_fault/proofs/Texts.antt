@@ -9,7 +9,8 @@ use Rattle.vw_fault.specs.Stuck.{is_detected, net_faults, open_faults}
 use Rattle.vw_fault.proofs.Rounds.{faults_within}
 
 -- open faults are of nets that there are
-open_within : (flat : Flat) (start : List Bool) (rows : List (List Bool)) → All (λ fault. fault.net < flat.inputs + length flat.cells) (open_faults flat start rows)
+open_within : (flat : Flat) (start : List Bool) (rows : List (List Bool))
+    → All (λ fault. fault.net < flat.inputs + length flat.cells) (open_faults flat start rows)
 open_within flat start rows =
     let nets = flat.inputs + length flat.cells in
     All-filter (λ (fault : Open). not (is_detected flat start rows fault)) (λ (fault : Open). fault.net < nets) (gather net_faults nets) (faults_within nets)
@@ -17,7 +18,8 @@ open_within flat start rows =
 fewer : (test : Open → Bool) (faults : List Open) → length (filter test faults) ≤ length faults
 fewer test [] = omega arith
 fewer test (fault ∷ faults) = by (test fault) (fewer test faults) where
-  by : (passes : Bool) → length (filter test faults) ≤ length faults → length (if passes then fault ∷ filter test faults else filter test faults) ≤ suc (length faults)
+  by : (passes : Bool) → length (filter test faults) ≤ length faults
+      → length (if passes then fault ∷ filter test faults else filter test faults) ≤ suc (length faults)
   by true few = omega (arith, few)
   by false few = omega (arith, few)
 
@@ -32,6 +34,7 @@ open_few flat start rows =
     omega (arith, fewer (λ (fault : Open). not (is_detected flat start rows fault)) (gather net_faults nets), two_each nets)
 
 -- where there is a name for each net, they have theirs
-pub open_named : (flat : Flat) (start : List Bool) (rows : List (List Bool)) (count : ℕ) (left : List Open) → count ≡ flat.inputs + length flat.cells → left ≡ open_faults flat start rows → All (λ fault. fault.net < count) left
+pub open_named : (flat : Flat) (start : List Bool) (rows : List (List Bool)) (count : ℕ) (left : List Open)
+    → count ≡ flat.inputs + length flat.cells → left ≡ open_faults flat start rows → All (λ fault. fault.net < count) left
 open_named flat start rows count left is are =
     subst (λ (list : List Open). All (λ (fault : Open). fault.net < count) list) (sym are) (subst (λ (nets : ℕ). All (λ (fault : Open). fault.net < nets) (open_faults flat start rows)) (sym is) (open_within flat start rows))

@@ -21,7 +21,8 @@ use Rattle.vw_fault.proofs.Differences.{undetected}
 use Rattle.vw_fault.proofs.Plain.{plain_outputs}
 
 -- the latch at a cell takes the net that stands there
-latch_input_at : (cells : List Cell) (number d : ℕ) (init : Init) → slice_get cells number ≡ Some (Latch d init) → slice_get (latch_inputs cells) (latch_count (take number cells)) ≡ Some d
+latch_input_at : (cells : List Cell) (number d : ℕ) (init : Init) → slice_get cells number ≡ Some (Latch d init)
+    → slice_get (latch_inputs cells) (latch_count (take number cells)) ≡ Some d
 latch_input_at [] number d init here = absurd (none-some (Latch d init) here)
 latch_input_at (cell ∷ cells) zero d init here = rw (same_Some cell (Latch d init) here) refl
 latch_input_at (Gate ins cover ∷ cells) (suc number) d init here = latch_input_at cells number d init here
@@ -36,11 +37,13 @@ module _ (find other : ℕ → Bool → Bool) (flat : Flat) (reaches : ℕ → B
     (same : (net : ℕ) → reaches net ≡ true → (bit : Bool) → find net bit ≡ other net bit) where
   -- two states in which the latches that reach an output have the same bits
   record Agree (one two : List Bool) : Type 0 where
-    bits : (number d : ℕ) (init : Init) → slice_get flat.cells number ≡ Some (Latch d init) → reaches (flat.inputs + number) ≡ true → slice_index_or one (latch_count (take number flat.cells)) false ≡ slice_index_or two (latch_count (take number flat.cells)) false
+    bits : (number d : ℕ) (init : Init) → slice_get flat.cells number ≡ Some (Latch d init) → reaches (flat.inputs + number) ≡ true
+        → slice_index_or one (latch_count (take number flat.cells)) false ≡ slice_index_or two (latch_count (take number flat.cells)) false
 
   module _ (row one two : List Bool) (agree : Agree one two) where
     -- what a cell gives a net that reaches an output
-    driven_same : (level number : ℕ) → reaches (flat.inputs + number) ≡ true → ((net : ℕ) → reaches net ≡ true → found_level find level flat row one net ≡ found_level other level flat row two net)
+    driven_same : (level number : ℕ) → reaches (flat.inputs + number) ≡ true
+        → ((net : ℕ) → reaches net ≡ true → found_level find level flat row one net ≡ found_level other level flat row two net)
         → (cell : Option Cell) → slice_get flat.cells number ≡ cell
         → driven_value (found_level find level flat row one) one (latch_count (take number flat.cells)) cell ≡ driven_value (found_level other level flat row two) two (latch_count (take number flat.cells)) cell
     driven_same level number its below None here = refl
@@ -51,7 +54,8 @@ module _ (find other : ℕ → Bool → Bool) (flat : Flat) (reaches : ℕ → B
         ap (cover_value cover) (map_agree found plain ins (All-weaker (λ net. reaches net ≡ true) (λ net. found net ≡ plain net) below ins reads))
     driven_same level number its below (Some (Latch d init)) here = agree.bits number d init here its
 
-    level_more : (level net : ℕ) → reaches net ≡ true → ((other_net : ℕ) → reaches other_net ≡ true → found_level find level flat row one other_net ≡ found_level other level flat row two other_net)
+    level_more : (level net : ℕ) → reaches net ≡ true
+        → ((other_net : ℕ) → reaches other_net ≡ true → found_level find level flat row one other_net ≡ found_level other level flat row two other_net)
         → found_level find (suc level) flat row one net ≡ found_level other (suc level) flat row two net
     level_more level net its below = ⊎_elim if_input if_driven (cases_Bool (nat_lt net flat.inputs)) where
       if_input : nat_lt net flat.inputs ≡ true → found_level find (suc level) flat row one net ≡ found_level other (suc level) flat row two net
@@ -79,7 +83,8 @@ module _ (find other : ℕ → Bool → Bool) (flat : Flat) (reaches : ℕ → B
 
     next_agree : Agree (found_next_state find flat row one) (found_next_state other flat row two)
     next_agree = record { bits = bits } where
-      bits : (number d : ℕ) (init : Init) → slice_get flat.cells number ≡ Some (Latch d init) → reaches (flat.inputs + number) ≡ true → slice_index_or (found_next_state find flat row one) (latch_count (take number flat.cells)) false ≡ slice_index_or (found_next_state other flat row two) (latch_count (take number flat.cells)) false
+      bits : (number d : ℕ) (init : Init) → slice_get flat.cells number ≡ Some (Latch d init) → reaches (flat.inputs + number) ≡ true
+          → slice_index_or (found_next_state find flat row one) (latch_count (take number flat.cells)) false ≡ slice_index_or (found_next_state other flat row two) (latch_count (take number flat.cells)) false
       bits number d init here its =
           let at = latch_input_at flat.cells number d init here in
           let reads : All (λ net. reaches net ≡ true) (d ∷ []) = rw here at (closed.reads number its) in
@@ -97,7 +102,8 @@ module _ (find other : ℕ → Bool → Bool) (flat : Flat) (reaches : ℕ → B
       (all_outputs_same (found_next_state find flat row one) (found_next_state other flat row two) rows (next_agree row one two agree))
 
 -- a fault of a net that is not among nets that are closed
-pub unreached : (flat : Flat) (start : List Bool) (rows : List (List Bool)) (fault : Open) (reaches : ℕ → Bool) → IsClosedByReading flat reaches → reaches fault.net ≡ false → is_detected flat start rows fault ≡ false
+pub unreached : (flat : Flat) (start : List Bool) (rows : List (List Bool)) (fault : Open) (reaches : ℕ → Bool)
+    → IsClosedByReading flat reaches → reaches fault.net ≡ false → is_detected flat start rows fault ≡ false
 unreached flat start rows fault reaches closed not_its =
     let other_net = λ (net : ℕ) (its : reaches net ≡ true) (is : net ≡ fault.net). true≢false (sym its ∙ ap reaches is ∙ not_its) in
     let same = λ (net : ℕ) (its : reaches net ≡ true) (bit : Bool). ap (λ (here : Bool). if here then fault.bit else bit) (ne_eqb net fault.net (other_net net its)) in
@@ -111,7 +117,8 @@ others (first ∷ numbers) number none =
     All-cons (λ other. not (other == number) ≡ true) first numbers (ap not parts.0) (others numbers number parts.1)
 
 -- nets other than one that nothing reads are closed
-pub unread : (flat : Flat) (start : List Bool) (rows : List (List Bool)) (fault : Open) → is_among flat.outputs fault.net ≡ false → ((number : ℕ) → is_among (read_nets_at (slice_get flat.cells number)) fault.net ≡ false) → is_detected flat start rows fault ≡ false
+pub unread : (flat : Flat) (start : List Bool) (rows : List (List Bool)) (fault : Open) → is_among flat.outputs fault.net ≡ false
+    → ((number : ℕ) → is_among (read_nets_at (slice_get flat.cells number)) fault.net ≡ false) → is_detected flat start rows fault ≡ false
 unread flat start rows fault no_output no_read =
     let closed : IsClosedByReading flat (λ net. not (net == fault.net)) = record { outputs = others flat.outputs fault.net no_output; reads = λ number its. others (read_nets_at (slice_get flat.cells number)) fault.net (no_read number) } in
     unreached flat start rows fault (λ net. not (net == fault.net)) closed (ap not (eq-eqb fault.net fault.net refl))

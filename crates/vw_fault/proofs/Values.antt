@@ -33,7 +33,9 @@ module _ (find : ℕ → Bool → Bool) (flat : Flat) (row state : List Bool) wh
         ap (λ (at : ℕ). slice_index_or values at false) its_net ∙ bits number is_its ∙ sym (found_value-latch find flat row state number is_its) ∙ ap (found_value find flat row state) (sym its_net)
 
   -- where each net has what is found of it, the bits of the nets that latches take are the state after the clock
-  pub next_state-from_found : (value : ℕ → Bool) → ((net : ℕ) → net < flat.inputs + length flat.cells → value net ≡ found_value find flat row state net) → map value (latch_inputs flat.cells) ≡ found_next_state find flat row state
+  pub next_state-from_found : (value : ℕ → Bool)
+      → ((net : ℕ) → net < flat.inputs + length flat.cells → value net ≡ found_value find flat row state net)
+      → map value (latch_inputs flat.cells) ≡ found_next_state find flat row state
   next_state-from_found value have =
       let nets = flat.inputs + length flat.cells in
       let found = found_value find flat row state in

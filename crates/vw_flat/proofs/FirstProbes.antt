@@ -1,6 +1,5 @@
 -- The first of some probes that finds no net.
-use Rattle.std.proofs.Common.{◌≡◌, ℕ, List, [], ◌∷◌, ◌++◌, refl, sym, ◌∙◌, ap, ap₂, subst}
-use Rattle.std.specs.List.{AllZip}
+use Rattle.std.proofs.Common.{◌≡◌, List, [], ◌∷◌, ◌++◌, refl, sym, ◌∙◌, ap₂, subst}
 use Rattle.vw_design.specs.declared.design.Design.{Design}
 use Rattle.vw_design.specs.Paths.{Word, Net}
 use Rattle.vw_design.specs.Accepted.{IsAccepted}
@@ -9,7 +8,8 @@ use Rattle.vw_flat.proofs.NetsBelow.{finds_once}
 
 module _ (design : Design) where
   -- a probe among some that all find a net
-  found_at : (before behind : List Word) (probe : Word) (nets : List Net) → FindAll design (before ++ probe ∷ behind) nets → (net : Net) × Finds design probe net
+  found_at : (before behind : List Word) (probe : Word) (nets : List Net) → FindAll design (before ++ probe ∷ behind) nets
+      → (net : Net) × Finds design probe net
   found_at [] behind probe [] found = absurd found
   found_at [] behind probe (net ∷ nets) found = (net, found.0)
   found_at (first ∷ before) behind probe [] found = absurd found

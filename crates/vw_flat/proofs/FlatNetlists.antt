@@ -17,7 +17,7 @@ use Rattle.vw_design.specs.Preorder.{Site, is_cell, sites, cells}
 use Rattle.vw_design.specs.NetReads.{net_at, nets_at, data_of, root_outputs, data_reads}
 use Rattle.vw_design.specs.Clocks.{columns}
 use Rattle.vw_design.specs.Flattened.{number_of, IsCellOf, IsFlatOf}
-use Rattle.vw_design.specs.Probes.{Finds, FindAll, shown_nets}
+use Rattle.vw_design.specs.Probes.{Finds, FindAll}
 use Rattle.vw_design.specs.Accepted.{IsAccepted}
 use Rattle.vw_design.proofs.ListElements.{Has, at-Has, Has-left, Has-right, Has-flat_map, from-filter, Contains-Has}
 use Rattle.vw_design.proofs.DriverNumbers.{read_numbered}
@@ -49,7 +49,8 @@ module _ (design : Design) (accepted : IsAccepted design) where
       }
 
   -- what an item reads as data is among all that is
-  site_reads : (site : Site) → Has site (sites design) → (names : List Word) → data_of site.item ≡ names → (net : Net) → Has net (nets_at site names) → Has net (data_reads design)
+  site_reads : (site : Site) → Has site (sites design) → (names : List Word) → data_of site.item ≡ names → (net : Net)
+      → Has net (nets_at site names) → Has net (data_reads design)
   site_reads site listed names is net has =
       let at_data = λ (s : Site). nets_at s (data_of s.item) in
       Has-left net (flat_map at_data (sites design)) (root_outputs design)
@@ -65,7 +66,8 @@ module _ (design : Design) (accepted : IsAccepted design) where
     fits : IsWellFormed (net_count design) cell
 
   -- a gate reads as many nets as its table has inputs
-  gate_arity : (site : Site) → Has site (cells design) → (line : ℕ) (ins : List Word) (out : Word) (cover : Cover) → site.item ≡ Names line ins out cover → length ins ≡ cover.inputs
+  gate_arity : (site : Site) → Has site (cells design) → (line : ℕ) (ins : List Word) (out : Word) (cover : Cover)
+      → site.item ≡ Names line ins out cover → length ins ≡ cover.inputs
   gate_arity site has line ins out cover is =
       let place = at-Has site (cells design) has in
       let all = gate_reads_all design place.0 site.item (ap item_with_numbers place.1) line ins out cover is in

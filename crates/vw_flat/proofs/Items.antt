@@ -59,7 +59,8 @@ module _ (design : Design) where
     by None none = absurd (none-some item (sym (ap (λ (m : Option Model). slice_get (items_of m) number) none) ∙ is))
     by (Some model) stands = (model, stands)
 
-  pub looked_up : (cell : ℕ) → IsCell cell → (entry : CellSite) → ((site : Site) → slice_get (cells design) cell ≡ Some site → IsCellSite (instances design) site entry)
+  pub looked_up : (cell : ℕ) → IsCell cell → (entry : CellSite)
+      → ((site : Site) → slice_get (cells design) cell ≡ Some site → IsCellSite (instances design) site entry)
       → (instance : Instance) → IsInstance design entry.instance instance → IsLookedUp cell entry instance
   looked_up cell is entry of_site instance is_instance =
       let site = is.site in
@@ -83,8 +84,10 @@ module _ (design : Design) where
     pub within : number < length models
     pub items : (model : Model) → model ≡ get_or models number model → (items : List Item) → items ≡ model.items → IsItemAt cell entry.item items
 
-  pub item_read : (cell : ℕ) → cell < cell_count design → (entry : CellSite) → ((site : Site) → slice_get (cells design) cell ≡ Some site → IsCellSite (instances design) site entry)
-      → (instance : Instance) → IsInstance design entry.instance instance → (models : List Model) → models ≡ design.models → IsModelAt cell entry instance.model models
+  pub item_read : (cell : ℕ) → cell < cell_count design → (entry : CellSite)
+      → ((site : Site) → slice_get (cells design) cell ≡ Some site → IsCellSite (instances design) site entry)
+      → (instance : Instance) → IsInstance design entry.instance instance → (models : List Model) → models ≡ design.models
+      → IsModelAt cell entry instance.model models
   item_read cell within entry of_site instance is_instance models are =
       let is = looked_up cell (cell_is cell within) entry of_site instance is_instance in
       let model = at_number models instance.model is.model (ap (λ (list : List Model). slice_get list instance.model) are ∙ is.model_is) in
@@ -100,7 +103,8 @@ module _ (design : Design) where
       }
 
   -- no cell is a placed model
-  pub never_placed : (cell : ℕ) (item : Item) → item_with_numbers (slice_get (cells design) cell) ≡ Some item → (line : ℕ) (name : Word) (binds : List Bind) → item ≡ Sub line name binds → ⊥
+  pub never_placed : (cell : ℕ) (item : Item) → item_with_numbers (slice_get (cells design) cell) ≡ Some item
+      → (line : ℕ) (name : Word) (binds : List Bind) → item ≡ Sub line name binds → ⊥
   never_placed cell item is line name binds same = by (slice_get (cells design) cell) refl where
     by : (found : Option Site) → slice_get (cells design) cell ≡ found → ⊥
     by None at = none-some item (sym (ap item_with_numbers at) ∙ is)

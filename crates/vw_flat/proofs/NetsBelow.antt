@@ -1,16 +1,15 @@
 -- Nets below an instance, and how they are printed.
-use Rattle.std.proofs.Common.{◌≡◌, ◌<◌, ◌≤◌, ◌+◌, ◌^◌, ℕ, zero, suc, true, false, true≢false, List, [], ◌∷◌, ◌++◌, reverse, length, length-append, append_assoc, append-nil, Option, Some, None, codes, flat_map, refl, sym, ◌∙◌, ap, ap₂, subst, arith}
+use Rattle.std.proofs.Common.{◌≡◌, ◌<◌, ◌+◌, ◌^◌, ℕ, true, List, [], ◌∷◌, ◌++◌, reverse, length, append_assoc, append-nil, Option, Some, None, codes, flat_map, refl, sym, ◌∙◌, ap, ap₂, subst, arith}
 use Rattle.std.specs.Prelude.{option_and_then}
 use Rattle.std.specs.Fmt.{decimal}
 use Rattle.std.proofs.lemmas.List.{reverse-append, reverse-reverse, length-reverse}
 use Rattle.std.proofs.lemmas.Option.{none-some}
 use Rattle.vw_design.specs.declared.design.Design.{Design}
 use Rattle.vw_design.specs.declared.model.Model.{Model}
-use Rattle.vw_design.specs.Paths.{Word, Path, Net, model_placed, model_at, printed}
+use Rattle.vw_design.specs.Paths.{Word, Path, Net, model_placed, model_at}
 use Rattle.vw_design.specs.Drivers.{driver}
-use Rattle.vw_design.specs.Probes.{has_bit, IsPrintedAs, Finds}
+use Rattle.vw_design.specs.Probes.{has_bit, Finds}
 use Rattle.vw_design.specs.Accepted.{IsAccepted}
-use Rattle.vw_design.specs.Limits.{instance_count}
 use Rattle.vw_design.proofs.FewPlaces.{place_few}
 use Rattle.vw_design.proofs.WatchedNets.{bit_of_instance}
 use Rattle.vw_flat.specs.Steps.Searches.{printed_below, path_below, HasBitBelow}
@@ -28,21 +27,25 @@ printed_deeper place places name =
 
 module _ (design : Design) where
   -- what stands above an instance is an instance
-  pub instance_above : (places : List ℕ) (path : Path) (model : Model) → model_at design (places ++ path) ≡ Some model → (upper : Model) × (model_at design path ≡ Some upper)
+  pub instance_above : (places : List ℕ) (path : Path) (model : Model) → model_at design (places ++ path) ≡ Some model
+      → (upper : Model) × (model_at design path ≡ Some upper)
   instance_above [] path model stands = (model, stands)
   instance_above (place ∷ places) path model stands = by (model_at design (places ++ path)) refl stands (instance_above places path) where
     by : (found : Option Model) → model_at design (places ++ path) ≡ found → option_and_then (model_placed design place) found ≡ Some model
-        → ((next : Model) → model_at design (places ++ path) ≡ Some next → (upper : Model) × (model_at design path ≡ Some upper)) → (upper : Model) × (model_at design path ≡ Some upper)
+        → ((next : Model) → model_at design (places ++ path) ≡ Some next → (upper : Model) × (model_at design path ≡ Some upper))
+        → (upper : Model) × (model_at design path ≡ Some upper)
     by None is placed above = absurd (none-some model placed)
     by (Some next) is placed above = above next is
 
   -- a net with a bit is in an instance, and so is what stands above it
-  pub place_of_bit : (path : Path) (place : ℕ) (places : List ℕ) (name : Word) → HasBitBelow design path (place ∷ places) name → (model : Model) × (model_at design (place ∷ path) ≡ Some model)
+  pub place_of_bit : (path : Path) (place : ℕ) (places : List ℕ) (name : Word) → HasBitBelow design path (place ∷ places) name
+      → (model : Model) × (model_at design (place ∷ path) ≡ Some model)
   place_of_bit path place places name bit =
       let at = bit_of_instance design (path_below path (place ∷ places)) name bit in
       instance_above (reverse places) (place ∷ path) at.0 (ap (model_at design) (sym (path_deeper path place places)) ∙ at.1)
 
-  pub bit_deeper : (path : Path) (place : ℕ) (places : List ℕ) (name : Word) → HasBitBelow design path (place ∷ places) name → HasBitBelow design (place ∷ path) places name
+  pub bit_deeper : (path : Path) (place : ℕ) (places : List ℕ) (name : Word) → HasBitBelow design path (place ∷ places) name
+      → HasBitBelow design (place ∷ path) places name
   bit_deeper path place places name bit = subst (λ (p : Path). has_bit design (driver design p name) ≡ true) (path_deeper path place places) bit
 
   module _ (accepted : IsAccepted design) where

@@ -15,7 +15,8 @@ abbrev pub HasNoSlash : List ℕ → Type 0
 HasNoSlash bytes = All (λ b. (b == 47) ≡ false) bytes
 
 -- a word begins with one place
-pub one_place : (place other : ℕ) (rest more : List ℕ) → place < 2 ^ 64 → other < 2 ^ 64 → decimal place ++ 47 ∷ rest ≡ decimal other ++ 47 ∷ more → (place ≡ other) × (rest ≡ more)
+pub one_place : (place other : ℕ) (rest more : List ℕ) → place < 2 ^ 64 → other < 2 ^ 64
+    → decimal place ++ 47 ∷ rest ≡ decimal other ++ 47 ∷ more → (place ≡ other) × (rest ≡ more)
 one_place place other rest more small fits same =
     let cut = cut_once 47 (decimal place) (decimal other) rest more (decimal_without 47 (omega arith) place) (decimal_without 47 (omega arith) other) same in
     (decimal_injective place other small fits cut.0, cut.1)
@@ -37,7 +38,8 @@ module _ (text : List ℕ) (end : ℕ) (within : end < length text) (before : (k
       let same = same_Some number place (sym is ∙ front_is place rest begins) in
       omega (arith, begins.fits, same, large)
 
-  pub front_place : (number : ℕ) → spelled_number (take end text) ≡ Some number → number < 2 ^ 32 → BeginsWithPlace text number (take (length text - (end + 1)) (drop (end + 1) text))
+  pub front_place : (number : ℕ) → spelled_number (take end text) ≡ Some number → number < 2 ^ 32
+      → BeginsWithPlace text number (take (length text - (end + 1)) (drop (end + 1) text))
   front_place number is small = record {
     split = cut_whole 47 text end within before ends ∙ ap (λ (front : List ℕ). front ++ 47 ∷ take (length text - (end + 1)) (drop (end + 1) text)) (decimal-number_of (take end text) number is).is;
     fits = small;

@@ -1,5 +1,5 @@
 -- The nets of probes from their numbers, and the first probe that has none.
-use Rattle.std.proofs.Common.{◌≡◌, ◌<◌, ◌+◌, ℕ, zero, suc, List, [], ◌∷◌, ◌++◌, length, map, take, drop, Option, Some, slice_get, refl, sym, ◌∙◌, ap, ap₂, subst, arith}
+use Rattle.std.proofs.Common.{◌≡◌, ◌<◌, ◌+◌, ℕ, zero, suc, List, [], ◌∷◌, ◌++◌, length, map, take, drop, Option, Some, slice_get, refl, sym, ◌∙◌, ap, ap₂}
 use Rattle.std.specs.List.{All, AllZip}
 use Rattle.std.proofs.lemmas.List.{length-map, map-append}
 use Rattle.std.proofs.lemmas.List.Elements.{All-nil, All-cons}
@@ -41,7 +41,8 @@ module _ (design : Design) where
       }
 
   -- the numbers of what is shown
-  pub shown_numbers : (nets : List Net) (own watched outputs : List ℕ) → map (λ net. number_of design net.path net.name) (root_outputs design) ≡ map (λ number. Some number) own
+  pub shown_numbers : (nets : List Net) (own watched outputs : List ℕ)
+      → map (λ net. number_of design net.path net.name) (root_outputs design) ≡ map (λ number. Some number) own
       → map (λ net. number_of design net.path net.name) nets ≡ map (λ number. Some number) watched → outputs ≡ own ++ watched
       → map (λ net. number_of design net.path net.name) (shown_nets design nets) ≡ map (λ number. Some number) outputs
   shown_numbers nets own watched outputs are watched_are is =

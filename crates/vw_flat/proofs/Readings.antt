@@ -39,7 +39,8 @@ module _ (design : Design) where
     by None = refl
     by (Some place) = refl
   numbers_agree (Some (at_cell path item)) = by (place_of_site (cells design) path item) where
-    by : (place : Option ℕ) → number_by (length (columns design)) (option_map (λ number. drivers.Cell number) place) ≡ option_map (λ at. length (columns design) + at) place
+    by : (place : Option ℕ)
+        → number_by (length (columns design)) (option_map (λ number. drivers.Cell number) place) ≡ option_map (λ at. length (columns design) + at) place
     by None = refl
     by (Some place) = refl
 
@@ -104,7 +105,8 @@ module _ (design : Design) where
   output_has net place is = Has-right net (flat_map (λ (s : Site). nets_at s (data_of s.item)) (sites design)) (root_outputs design) (Has-at net (root_outputs design) place is)
 
   -- a gate reads as many nets as its table has inputs
-  pub gate_reads_all : (cell : ℕ) (item : Item) → item_with_numbers (slice_get (cells design) cell) ≡ Some item → (line : ℕ) (ins : List Word) (out : Word) (cover : Cover) → item ≡ Names line ins out cover
+  pub gate_reads_all : (cell : ℕ) (item : Item) → item_with_numbers (slice_get (cells design) cell) ≡ Some item
+      → (line : ℕ) (ins : List Word) (out : Word) (cover : Cover) → item ≡ Names line ins out cover
       → length (numbers_at design (slice_get (cells design) cell)) ≡ cover.inputs
   gate_reads_all cell item is line ins out cover same = by (slice_get (cells design) cell) refl where
     by : (found : Option Site) → slice_get (cells design) cell ≡ found → length (numbers_at design (slice_get (cells design) cell)) ≡ cover.inputs

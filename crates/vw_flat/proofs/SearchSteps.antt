@@ -1,16 +1,16 @@
 -- One step of the search for the net of a probe: here, or one instance deeper.
-use Rattle.std.proofs.Common.{◌≡◌, ◌<◌, ◌≤◌, ◌+◌, ◌^◌, ℕ, zero, suc, Bool, true, false, true≢false, List, [], ◌∷◌, ◌++◌, reverse, length, length-append, append-nil, Option, Some, None, slice_get, Contains, refl, sym, ◌∙◌, ap, ap₂, subst, arith}
+use Rattle.std.proofs.Common.{◌≡◌, ◌<◌, ◌+◌, ℕ, true, List, [], ◌∷◌, ◌++◌, reverse, length, length-append, append-nil, Option, Some, None, slice_get, Contains, refl, sym, ◌∙◌, ap, subst, arith}
 use Rattle.std.specs.Fmt.{decimal}
 use Rattle.std.specs.Str.{bytes_eq}
 use Rattle.std.proofs.lemmas.List.{reverse-reverse, length-reverse}
 use Rattle.std.proofs.lemmas.Option.{none-some, same_Some}
 use Rattle.vw_design.specs.declared.design.Design.{Design}
 use Rattle.vw_design.specs.declared.model.Model.{Model}
-use Rattle.vw_design.specs.Paths.{Word, Path, Net, model_at, printed}
+use Rattle.vw_design.specs.Paths.{Word, Path, model_at}
 use Rattle.vw_design.specs.Preorder.{instances}
 use Rattle.vw_design.specs.PathValue.{place_of_path}
 use Rattle.vw_design.specs.Drivers.{driver}
-use Rattle.vw_design.specs.Probes.{has_bit, IsPrintedAs, Finds, FindsNone}
+use Rattle.vw_design.specs.Probes.{has_bit}
 use Rattle.vw_design.specs.Flattened.{number_of}
 use Rattle.vw_design.specs.Accepted.{IsAccepted}
 use Rattle.vw_design.proofs.ListElements.{Has, Has-Contains, at-place, some-place}
@@ -18,7 +18,7 @@ use Rattle.vw_design.proofs.Names.{same_name, equal_names}
 use Rattle.vw_design.proofs.PlacedInstances.{faultless_listed}
 use Rattle.vw_design.proofs.WatchedNets.{number_of_bit, bit_of_number}
 use Rattle.vw_flat.specs.Steps.Numbers.{net_count}
-use Rattle.vw_flat.specs.Steps.Searches.{printed_below, path_below, HasBitBelow, FindsBelow, FindsNoneBelow, IsFoundBelow, HasNumberOf, IsNumberOf, BeginsWithPlace, BeginsWithNone}
+use Rattle.vw_flat.specs.Steps.Searches.{printed_below, path_below, HasBitBelow, FindsBelow, FindsNoneBelow, IsFoundBelow, IsNumberOf, BeginsWithPlace, BeginsWithNone}
 use Rattle.vw_flat.proofs.PlacesInFront.{one_place}
 use Rattle.vw_flat.proofs.NetsBelow.{path_deeper, printed_deeper, place_of_bit, bit_deeper, few, below_root}
 
@@ -34,7 +34,8 @@ module _ (design : Design) where
 
 module _ (design : Design) (accepted : IsAccepted design) where
   -- a net of the instance itself
-  pub found_here : (path : Path) (word : Word) (number : ℕ) → number_of design path word ≡ Some number → number < net_count design → FindsBelow design path word number
+  pub found_here : (path : Path) (word : Word) (number : ℕ) → number_of design path word ≡ Some number → number < net_count design
+      → FindsBelow design path word number
   found_here path word number is fits = record { places = []; name = word; prints = refl; is = is; fits = fits; first = λ others other prints bit. omega arith }
 
   pub number_fits : (path : Path) (word : Word) (number : ℕ) → number_of design path word ≡ Some number → number < net_count design
@@ -55,7 +56,8 @@ module _ (design : Design) (accepted : IsAccepted design) where
     stands : model_at design (place ∷ path) ≡ Some model
     bit : HasBitBelow design (place ∷ path) rest name
 
-  deeper : (path : Path) (word : Word) → number_of design path word ≡ None → (places : List ℕ) (name : Word) → printed_below places name ≡ word → HasBitBelow design path places name → IsDeeper path word places name
+  deeper : (path : Path) (word : Word) → number_of design path word ≡ None → (places : List ℕ) (name : Word)
+      → printed_below places name ≡ word → HasBitBelow design path places name → IsDeeper path word places name
   deeper path word none [] name prints bit = absurd (no_bit path word none (subst (λ (w : Word). has_bit design (driver design path w) ≡ true) prints bit))
   deeper path word none (place ∷ rest) name prints bit =
       let at = place_of_bit design path place rest name bit in
@@ -86,7 +88,8 @@ module _ (design : Design) (accepted : IsAccepted design) where
       none-some at.0 (sym no_child ∙ at.1)
 
   -- the child is the instance at the place
-  pub child_is : (path : Path) (place child : ℕ) → place_of_path (instances design) (place ∷ path) ≡ Some child → slice_get (instances design) child ≡ Some (place ∷ path)
+  pub child_is : (path : Path) (place child : ℕ) → place_of_path (instances design) (place ∷ path) ≡ Some child
+      → slice_get (instances design) child ≡ Some (place ∷ path)
   child_is path place child is =
       let at = at-place (λ (other : Path). bytes_eq other (place ∷ path)) (instances design) child is in
       at.1 ∙ ap (λ (p : Path). Some p) (same_name at.0 (place ∷ path) at.2)
@@ -112,7 +115,8 @@ module _ (design : Design) (accepted : IsAccepted design) where
   }
 
   pub on_deeper : (probe : Word) (instance : ℕ) (word : Word) (on : IsOnTheWay design probe instance word) → number_of design on.path word ≡ None
-      → (place : ℕ) (rest : List ℕ) → BeginsWithPlace word place rest → (child : ℕ) → Some child ≡ place_of_path (instances design) (place ∷ on.path) → IsOnTheWay design probe child rest
+      → (place : ℕ) (rest : List ℕ) → BeginsWithPlace word place rest → (child : ℕ)
+      → Some child ≡ place_of_path (instances design) (place ∷ on.path) → IsOnTheWay design probe child rest
   on_deeper probe instance word on none place rest front child is = record {
     path = place ∷ on.path;
     at = child_is on.path place child (sym is);

@@ -1,10 +1,10 @@
 -- The netlist of a design in which probes watch nets, and why there is none.
-use Rattle.std.specs.Prelude.{◌≡◌, ◌<◌, ℕ, List, Option, Some, None}
+use Rattle.std.specs.Prelude.{List}
 use Rattle.vw_net.specs.declared.flat.Flat.{Flat}
 use Rattle.vw_design.specs.declared.design.Design.{Design}
 use Rattle.vw_design.specs.Paths.{Word, Net}
-use Rattle.vw_design.specs.Probes.{Finds, FindsNone, FindAll, IsFirstWithoutNet}
-use Rattle.vw_design.specs.Flattened.{number_of, IsFlatOf}
+use Rattle.vw_design.specs.Probes.{FindAll, IsFirstWithoutNet}
+use Rattle.vw_design.specs.Flattened.{IsFlatOf}
 use Rattle.vw_flat.specs.declared.fault.FlatFault.{FlatFault}
 use Rattle.vw_flat.specs.declared.fault.FlatFault.TheVariants.{NoProbe, NoMemory}
 

@@ -21,10 +21,12 @@ use Rattle.vw_drivers.specs.Tables.{AreDesignTables, instance_firsts}
 use Rattle.vw_net_faults.specs.Steps.Items.{item_at_site, numbers_by, AreNumbersOf}
 
 -- what a list has at a number, where it is read through a reference
-pub listed_at : {X : Type 0} {list shown : List X} {number : ℕ} {x : X} → shown ≡ list → number < length shown → x ≡ get_or shown number x → slice_get list number ≡ Some x
+pub listed_at : {X : Type 0} {list shown : List X} {number : ℕ} {x : X} → shown ≡ list → number < length shown → x ≡ get_or shown number x
+    → slice_get list number ≡ Some x
 listed_at {shown = shown} {number = number} {x = x} same within at = ap (λ (l : List _). slice_get l number) (sym same) ∙ slice_get_read shown (length shown) number x refl within at
 
-pub numbers_of_names : (firsts : List First) (names : List Word) (numbers : List (Option ℕ)) → numbers ≡ map (number_named firsts) names → AreNumbersOf firsts names numbers
+pub numbers_of_names : (firsts : List First) (names : List Word) (numbers : List (Option ℕ)) → numbers ≡ map (number_named firsts) names
+    → AreNumbersOf firsts names numbers
 numbers_of_names firsts names numbers are place name at =
     ap (λ (list : List (Option ℕ)). option_and_then (λ (number : Option ℕ). number) (slice_get list place)) are
     ∙ ap (option_and_then (λ (number : Option ℕ). number)) (slice_get-map (number_named firsts) names place)
@@ -56,7 +58,8 @@ module _ (design : Design) (tables : Tables) (are : AreDesignTables design table
       ∙ slice_get-map of entry.2.model.items cell.item ∙ ap (option_map of) in_model
       ∙ ap (λ (firsts : List First). Some (map (number_named firsts) (reads_of item))) (sym firsts_are)
 
-  pub numbers_here : (numbers : List (Option ℕ)) → Some numbers ≡ numbers_by tables cell → AreNumbersOf (instance_firsts tables cell.instance) (reads_of item) numbers
+  pub numbers_here : (numbers : List (Option ℕ)) → Some numbers ≡ numbers_by tables cell
+      → AreNumbersOf (instance_firsts tables cell.instance) (reads_of item) numbers
   numbers_here numbers is =
       numbers_of_names (instance_firsts tables cell.instance) (reads_of item) numbers (same_Some numbers (map (number_named (instance_firsts tables cell.instance)) (reads_of item)) (is ∙ numbers_are))
 
@@ -80,7 +83,8 @@ module _ (design : Design) (tables : Tables) (are : AreDesignTables design table
       subst (λ (l : List ModelClaims). number < length l) (sym same)
       (subst (λ (n : ℕ). n < length tables.claims) (sym is) (slice_get_within tables.claims root_entry.0.model root_claims.0 root_claims.1))
 
-  pub root_firsts_are : (number : ℕ) → number ≡ root_entry.0.model → (list : List ModelClaims) → list ≡ tables.claims → (found : ModelClaims) → found ≡ get_or list number found
+  pub root_firsts_are : (number : ℕ) → number ≡ root_entry.0.model → (list : List ModelClaims) → list ≡ tables.claims
+      → (found : ModelClaims) → found ≡ get_or list number found
       → found.firsts ≡ instance_firsts tables 0
   root_firsts_are number is list same found at =
       let there : get_or tables.claims root_entry.0.model found ≡ root_claims.0 = get_or_from_slice_get tables.claims root_entry.0.model root_claims.0 found root_claims.1 in

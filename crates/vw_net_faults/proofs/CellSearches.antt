@@ -56,7 +56,8 @@ module _ (design : Design) (test : Net → Bool) (names : Site → List Word) wh
   abbrev pub of_cells : List Site → Option Net
   of_cells list = find test (flat_map (λ site. nets_at site (names site)) list)
 
-  pub of_site : (site : Site) (list : List Site) → of_cells (site ∷ list) ≡ option_or (option_map (net_at site.path) (find (λ name. test (net_at site.path name)) (names site))) (of_cells list)
+  pub of_site : (site : Site) (list : List Site)
+      → of_cells (site ∷ list) ≡ option_or (option_map (net_at site.path) (find (λ name. test (net_at site.path name)) (names site))) (of_cells list)
   of_site site list =
       find-append test (nets_at site (names site)) (flat_map (λ (s : Site). nets_at s (names s)) list)
       ∙ ap (λ (o : Option Net). option_or o (of_cells list)) (find_map (net_at site.path) test (names site))
@@ -67,7 +68,8 @@ module _ (design : Design) (test : Net → Bool) (names : Site → List Word) wh
         ap (λ (o : Option Word). option_or (option_map (net_at is.site.path) o) (of_cells (drop (i + 1) (cells design)))) none
         ∙ sym (of_site is.site (drop (i + 1) (cells design))) ∙ sym (ap of_cells is.cut) ∙ far
 
-    pub found_here : (name : Word) → Some name ≡ find (λ name. test (net_at is.site.path name)) (names is.site) → Some (net_at is.site.path name) ≡ of_cells (cells design)
+    pub found_here : (name : Word) → Some name ≡ find (λ name. test (net_at is.site.path name)) (names is.site)
+        → Some (net_at is.site.path name) ≡ of_cells (cells design)
     found_here name some =
         ap (λ (o : Option Word). option_or (option_map (net_at is.site.path) o) (of_cells (drop (i + 1) (cells design)))) some
         ∙ sym (of_site is.site (drop (i + 1) (cells design))) ∙ sym (ap of_cells is.cut) ∙ far

@@ -29,7 +29,8 @@ module _ (numbers : List ℕ) (i : ℕ) (within : i < length numbers) where
   more k =
       ap (λ (list : List ℕ). is_among list k) (take_more numbers i 0 within) ∙ list_any-append (λ (other : ℕ). other == k) (take i numbers) (get_or numbers i 0 ∷ [])
 
-  pub flagged_here : (clock_flags : List Bool) (count : ℕ) → length clock_flags ≡ count → ((k : ℕ) → k < count → slice_get clock_flags k ≡ Some (is_among (take i numbers) k)) → get_or numbers i 0 < count
+  pub flagged_here : (clock_flags : List Bool) (count : ℕ) → length clock_flags ≡ count
+      → ((k : ℕ) → k < count → slice_get clock_flags k ≡ Some (is_among (take i numbers) k)) → get_or numbers i 0 < count
       → (k : ℕ) → k < count → slice_get (set clock_flags (get_or numbers i 0) true) k ≡ Some (is_among (take (i + 1) numbers) k)
   flagged_here clock_flags count long flagged low k below = by (get_or numbers i 0 == k) refl where
     by : (b : Bool) → (get_or numbers i 0 == k) ≡ b → slice_get (set clock_flags (get_or numbers i 0) true) k ≡ Some (is_among (take (i + 1) numbers) k)
@@ -41,7 +42,8 @@ module _ (numbers : List ℕ) (i : ℕ) (within : i < length numbers) where
         set_elsewhere clock_flags (get_or numbers i 0) k true (λ is. true≢false (sym (eq-eqb (get_or numbers i 0) k (sym is)) ∙ differ)) ∙ flagged k below
         ∙ ap (λ (b : Bool). Some b) (sym (more k ∙ ap (λ (b : Bool). is_among (take i numbers) k || (b || false)) differ ∙ or-false (is_among (take i numbers) k)))
 
-  pub not_flagged : (clock_flags : List Bool) (count : ℕ) → ((k : ℕ) → k < count → slice_get clock_flags k ≡ Some (is_among (take i numbers) k)) → count ≤ get_or numbers i 0
+  pub not_flagged : (clock_flags : List Bool) (count : ℕ)
+      → ((k : ℕ) → k < count → slice_get clock_flags k ≡ Some (is_among (take i numbers) k)) → count ≤ get_or numbers i 0
       → (k : ℕ) → k < count → slice_get clock_flags k ≡ Some (is_among (take (i + 1) numbers) k)
   not_flagged clock_flags count flagged high k below = by (get_or numbers i 0 == k) refl where
     by : (b : Bool) → (get_or numbers i 0 == k) ≡ b → slice_get clock_flags k ≡ Some (is_among (take (i + 1) numbers) k)
@@ -64,10 +66,12 @@ module _ (root : List First) where
   number_within name n is = let found = at-place (λ (x : First). bytes_eq x.name name) root n is in slice_get_within root n found.0 found.1
 
   -- a name is one of some names exactly where its number is one of theirs
-  pub among_numbers : (names : List Word) (name : Word) (n : ℕ) → number_named root name ≡ Some n → is_among (filter_map (number_named root) names) n ≡ has_name names name
+  pub among_numbers : (names : List Word) (name : Word) (n : ℕ) → number_named root name ≡ Some n
+      → is_among (filter_map (number_named root) names) n ≡ has_name names name
   among_numbers [] name n is = refl
   among_numbers (other ∷ names) name n is = by (number_named root other) refl (among_numbers names name n is) where
-    by : (found : Option ℕ) → number_named root other ≡ found → is_among (filter_map (number_named root) names) n ≡ has_name names name → is_among (cons_option found (filter_map (number_named root) names)) n ≡ (bytes_eq other name || has_name names name)
+    by : (found : Option ℕ) → number_named root other ≡ found → is_among (filter_map (number_named root) names) n ≡ has_name names name
+        → is_among (cons_option found (filter_map (number_named root) names)) n ≡ (bytes_eq other name || has_name names name)
     by None none rest = rest ∙ sym (ap (λ (b : Bool). b || has_name names name) (differ (bytes_eq other name) refl)) where
       differ : (b : Bool) → bytes_eq other name ≡ b → bytes_eq other name ≡ false
       differ true same = cc (ap (number_named root) (same_name other name same))
@@ -79,7 +83,8 @@ module _ (root : List First) where
   has_number_is (Some k) n has = ap (λ (m : ℕ). Some m) (eqb-true k n has)
 
   -- the one name with a number is found by it
-  pub found_by_number : (names : List Word) (name : Word) (n : ℕ) → has_name names name ≡ true → number_named root name ≡ Some n → find (λ other. is_found_number (number_named root other) n) names ≡ Some name
+  pub found_by_number : (names : List Word) (name : Word) (n : ℕ) → has_name names name ≡ true → number_named root name ≡ Some n
+      → find (λ other. is_found_number (number_named root other) n) names ≡ Some name
   found_by_number names name n has is =
       let test = λ (other : Word). is_found_number (number_named root other) n in
       let found = some-find test name names (Has-has_name names name has) (ap (λ (o : Option ℕ). is_found_number o n) is ∙ eq-eqb n n refl) in
@@ -92,7 +97,8 @@ module _ (design : Design) (root : Model) (stands : Some root ≡ model_at desig
   inputs_first test =
       ap (λ (m : Option Model). find test (inputs_of m ++ clocks_of m)) (sym stands) ∙ find-append test root.inputs root.clocks
 
-  pub clock_numbers : (number : Word → Option ℕ) (ports : List ℕ) → map number (control_ports design) ≡ somes ports → filter_map number root.clocks ++ ports ≡ filter_map number (clock_ports design)
+  pub clock_numbers : (number : Word → Option ℕ) (ports : List ℕ) → map number (control_ports design) ≡ somes ports
+      → filter_map number root.clocks ++ ports ≡ filter_map number (clock_ports design)
   unfolding clock_ports
   clock_numbers number ports are =
       sym (ap (λ (m : Option Model). filter_map number (clocks_of m ++ control_ports design)) (sym stands)

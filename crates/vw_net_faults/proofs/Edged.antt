@@ -30,7 +30,8 @@ module _ (edge : Edge) where
       ≡ option_or (find (λ latch. not (same_edge edge latch.edge)) (option_to_list latch)) (find (λ latch. not (same_edge edge latch.edge)) rest)
   one_first None rest = refl
   one_first (Some latch) rest = by (not (same_edge edge latch.edge)) where
-    by : (b : Bool) → cond b (Some latch) (find (λ (l : Edged). not (same_edge edge l.edge)) rest) ≡ option_or (cond b (Some latch) None) (find (λ (l : Edged). not (same_edge edge l.edge)) rest)
+    by : (b : Bool)
+        → cond b (Some latch) (find (λ (l : Edged). not (same_edge edge l.edge)) rest) ≡ option_or (cond b (Some latch) None) (find (λ (l : Edged). not (same_edge edge l.edge)) rest)
     by true = refl
     by false = refl
 
@@ -39,7 +40,8 @@ module _ (edge : Edge) where
 
 module _ (design : Design) where
   -- what an answer says of what is looked for
-  pub typed_some : (latch : Option Edged) (found : Typed) → IsTyped design latch (Some found) → (is : Edged) × (latch ≡ Some is) × IsTyped design (Some is) (Some found)
+  pub typed_some : (latch : Option Edged) (found : Typed) → IsTyped design latch (Some found)
+      → (is : Edged) × (latch ≡ Some is) × IsTyped design (Some is) (Some found)
   typed_some None found typed = absurd typed
   typed_some (Some latch) found typed = (latch, refl, typed)
 
@@ -72,7 +74,8 @@ module _ (design : Design) where
 latches_alone : (list : List Site) → typed_of (filter (λ site. is_latch_item site.item) list) ≡ typed_of (filter (λ site. is_cell site.item) list)
 latches_alone [] = refl
 latches_alone (site ∷ list) = by site.path site.item site refl refl (latches_alone list) where
-  by : (path : Path) (item : Item) (site : Site) → site.path ≡ path → site.item ≡ item → typed_of (filter (λ (s : Site). is_latch_item s.item) list) ≡ typed_of (filter (λ (s : Site). is_cell s.item) list)
+  by : (path : Path) (item : Item) (site : Site) → site.path ≡ path → site.item ≡ item
+      → typed_of (filter (λ (s : Site). is_latch_item s.item) list) ≡ typed_of (filter (λ (s : Site). is_cell s.item) list)
       → typed_of (cond (is_latch_item item) (site ∷ filter (λ (s : Site). is_latch_item s.item) list) (filter (λ (s : Site). is_latch_item s.item) list))
       ≡ typed_of (cond (is_cell item) (site ∷ filter (λ (s : Site). is_cell s.item) list) (filter (λ (s : Site). is_cell s.item) list))
   by path (Names line ins out cover) site here is rest =
@@ -90,7 +93,8 @@ is_written latch = not (same_edge Unsaid latch.edge)
 first_written : (list : List Site) → find is_written (typed_of list) ≡ slice_get (typed_of list) 0
 first_written [] = refl
 first_written (site ∷ list) = by site.item (first_written list) where
-  by : (item : Item) → find is_written (typed_of list) ≡ slice_get (typed_of list) 0 → find is_written (cons_option (edge_at site.path item) (typed_of list)) ≡ slice_get (cons_option (edge_at site.path item) (typed_of list)) 0
+  by : (item : Item) → find is_written (typed_of list) ≡ slice_get (typed_of list) 0
+      → find is_written (cons_option (edge_at site.path item) (typed_of list)) ≡ slice_get (cons_option (edge_at site.path item) (typed_of list)) 0
   by (Names line ins out cover) rest = rest
   by (Latch line d q Rise control init) rest = refl
   by (Latch line d q Fall control init) rest = refl

@@ -36,7 +36,8 @@ module _ (design : Design) (i : ℕ) (path : Path) (listed : slice_get (instance
       (cases_lt k i)
 
   -- where another one comes first
-  pub taken : (found first : Option Second) → IsSecondAt design path i found → IsFirstSecond design i first → is_earlier found first ≡ true → IsFirstSecond design (i + 1) found
+  pub taken : (found first : Option Second) → IsSecondAt design path i found → IsFirstSecond design i first → is_earlier found first ≡ true
+      → IsFirstSecond design (i + 1) found
   taken None first is had earlier = absurd (true≢false (sym earlier))
   taken (Some found) None is had earlier = (
     (path, ap (slice_get (instances design)) is.0 ∙ listed, is.1),
@@ -53,7 +54,8 @@ module _ (design : Design) (i : ℕ) (path : Path) (listed : slice_get (instance
   )
 
   -- where none does
-  pub kept : (found first : Option Second) → IsSecondAt design path i found → IsFirstSecond design i first → is_earlier found first ≡ false → IsFirstSecond design (i + 1) first
+  pub kept : (found first : Option Second) → IsSecondAt design path i found → IsFirstSecond design i first → is_earlier found first ≡ false
+      → IsFirstSecond design (i + 1) first
   kept None None is had later = one_more (λ other. AreNone design other) had is
   kept None (Some first) is had later = (
     had.0,
@@ -84,7 +86,8 @@ module _ (design : Design) (faultless : HasNoModelFault design) where
       let model = model_of site has in
       at-Has site.path (instances design) (Has-Contains site.path (instances design) (faultless_listed design faultless site.path model.0 model.1))
 
-  claimed_at : (q : ℕ) (site : Site) → slice_get (sites design) q ≡ Some site → (name : Word) → again_at design (model_at design site.path) site.number site.item ≡ Some name → IsClaimedAt design site.path site.number q name
+  claimed_at : (q : ℕ) (site : Site) → slice_get (sites design) q ≡ Some site → (name : Word)
+      → again_at design (model_at design site.path) site.number site.item ≡ Some name → IsClaimedAt design site.path site.number q name
   claimed_at q site at name again = record {
     item = site.item;
     item_is = site_item design site (Has-at site (sites design) q at);
@@ -92,7 +95,8 @@ module _ (design : Design) (faultless : HasNoModelFault design) where
     place = site_once design q site at;
   }
 
-  no_claim : (site : Site) → ((name : Word) → again_at design (model_at design site.path) site.number site.item ≡ Some name → ⊥) → claimed_again design site ≡ None
+  no_claim : (site : Site) → ((name : Word) → again_at design (model_at design site.path) site.number site.item ≡ Some name → ⊥)
+      → claimed_again design site ≡ None
   no_claim site none = by (again_at design (model_at design site.path) site.number site.item) none where
     by : (found : Option Word) → ((name : Word) → found ≡ Some name → ⊥) → option_map (net_at site.path) found ≡ None
     by None none = refl

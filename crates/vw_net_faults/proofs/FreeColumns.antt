@@ -34,7 +34,8 @@ in_replicate zero x k within = absurd (omega arith)
 in_replicate (suc count) x zero within = refl
 in_replicate (suc count) x (suc k) within = in_replicate count x k (omega arith)
 
-pub no_columns : (firsts : List First) (ports : List (Option ℕ)) → ports ≡ replicate (length firsts) None → (name : Word) (k : ℕ) → number_named firsts name ≡ Some k → slice_get ports k ≡ Some None
+pub no_columns : (firsts : List First) (ports : List (Option ℕ)) → ports ≡ replicate (length firsts) None → (name : Word) (k : ℕ)
+    → number_named firsts name ≡ Some k → slice_get ports k ≡ Some None
 no_columns firsts ports are name k is = ap (λ (list : List (Option ℕ)). slice_get list k) are ∙ in_replicate (length firsts) None k (number_within firsts name k is)
 
 -- as many, once a column is written
@@ -45,7 +46,8 @@ length-with_column ports number column = by (has_none (slice_get ports number)) 
   by false = refl
 
 -- the place of a name where one is added
-place_more : (names : List Word) (x name : Word) → place_of_name (names ++ x ∷ []) name ≡ option_or (place_of_name names name) (cond (bytes_eq x name) (Some (length names)) None)
+place_more : (names : List Word) (x name : Word)
+    → place_of_name (names ++ x ∷ []) name ≡ option_or (place_of_name names name) (cond (bytes_eq x name) (Some (length names)) None)
 place_more [] x name = refl
 place_more (first ∷ names) x name =
     ap (λ (rest : Option ℕ). cond (bytes_eq first name) (Some zero) (option_map (λ place. suc place) rest)) (place_more names x name)
@@ -111,7 +113,8 @@ free_name clock_flags (Some k) n is = by (get_or clock_flags k false) is where
   by false is = sym is
 
 -- a free name is numbered
-pub free_number : (firsts : List First) (clock_flags : List Bool) (x : Word) (n : ℕ) → Some n ≡ unflagged clock_flags (number_named firsts x) → number_named firsts x ≡ Some n
+pub free_number : (firsts : List First) (clock_flags : List Bool) (x : Word) (n : ℕ)
+    → Some n ≡ unflagged clock_flags (number_named firsts x) → number_named firsts x ≡ Some n
 free_number firsts clock_flags x n is = free_name clock_flags (number_named firsts x) n is
 
 -- an input of the root has a number, and is free exactly where it is no clock port
@@ -119,7 +122,8 @@ module _ (design : Design) (tables : Tables) (are : AreDesignTables design table
   claimed : (found : ModelClaims) × (slice_get tables.claims 0 ≡ Some found) × AreClaims design (Some root) found
   claimed = are.claims.each 0 root (sym stands)
 
-  numbered : (found : Option ℕ) (firsts : List First) (claim : Claim) (meaning : NumberedClaim → Option Claim) → option_map meaning (option_and_then (claim_at firsts) found) ≡ Some (Some claim) → (n : ℕ) × (found ≡ Some n)
+  numbered : (found : Option ℕ) (firsts : List First) (claim : Claim) (meaning : NumberedClaim → Option Claim)
+      → option_map meaning (option_and_then (claim_at firsts) found) ≡ Some (Some claim) → (n : ℕ) × (found ≡ Some n)
   numbered None firsts claim meaning is = cc
   numbered (Some n) firsts claim meaning is = (n, refl)
 
@@ -133,7 +137,8 @@ module _ (design : Design) (tables : Tables) (are : AreDesignTables design table
       let named = numbered (number_named firsts name) firsts port (meant root.items) (claimed.2.firsts name ∙ ap (option_map (λ (claim : Claim). Some claim)) (port_first name is)) in
       (named.0, ap (λ (found : Option ModelClaims). number_named (unwrap_or (option_map (λ (f : ModelClaims). f.firsts) found) []) name) claimed.1 ∙ named.1)
 
-  free_is : (clock_flags : List Bool) → AreClockFlags design (root_firsts tables) clock_flags → (name : Word) → has_name root.inputs name ≡ true → is_free (root_firsts tables) clock_flags name ≡ not (has_name (clock_ports design) name)
+  free_is : (clock_flags : List Bool) → AreClockFlags design (root_firsts tables) clock_flags → (name : Word)
+      → has_name root.inputs name ≡ true → is_free (root_firsts tables) clock_flags name ≡ not (has_name (clock_ports design) name)
   free_is clock_flags flagged name is =
       let number = input_number name is in
       ap (λ (found : Option ℕ). is_some (unflagged clock_flags found)) number.1
@@ -148,13 +153,16 @@ module _ (design : Design) (tables : Tables) (are : AreDesignTables design table
   filter_same one other [] same = refl
   filter_same one other (name ∷ names) same = ap₂ (λ (b : Bool) (rest : List Word). cond b (name ∷ rest) rest) (same name (inl refl)) (filter_same one other names (λ further has. same further (inr has)))
 
-  free_columns : (clock_flags : List Bool) → AreClockFlags design (root_firsts tables) clock_flags → filter (is_free (root_firsts tables) clock_flags) root.inputs ≡ columns design
+  free_columns : (clock_flags : List Bool) → AreClockFlags design (root_firsts tables) clock_flags
+      → filter (is_free (root_firsts tables) clock_flags) root.inputs ≡ columns design
   unfolding columns
   free_columns clock_flags flagged =
       filter_same (is_free (root_firsts tables) clock_flags) (λ name. not (has_name (clock_ports design) name)) root.inputs (λ name has. free_is clock_flags flagged name (has_name-Has root.inputs name has))
       ∙ ap (λ (m : Option Model). filter (λ name. not (has_name (clock_ports design) name)) (inputs_of m)) stands
 
-  pub columns_are : (firsts : List First) → firsts ≡ root_firsts tables → (clock_flags list : List Bool) → list ≡ clock_flags → AreClockFlags design (root_firsts tables) clock_flags → (names : List Word) → names ≡ root.inputs → (found : Columns) → AreFree firsts list names found
+  pub columns_are : (firsts : List First) → firsts ≡ root_firsts tables → (clock_flags list : List Bool) → list ≡ clock_flags
+      → AreClockFlags design (root_firsts tables) clock_flags → (names : List Word) → names ≡ root.inputs → (found : Columns)
+      → AreFree firsts list names found
       → AreColumns design (root_firsts tables) found
   columns_are firsts same clock_flags list given flagged names inputs found free =
       let same_columns = λ (name : Word).
@@ -168,7 +176,8 @@ module _ (design : Design) (tables : Tables) (are : AreDesignTables design table
       }
 
 -- behind the last name all have their columns
-pub all_free : (firsts : List First) (clock_flags : List Bool) (names : List Word) (i : ℕ) → length names ≤ i → (found : Columns) (inputs : List ℕ) → found.inputs ≡ inputs → (ports : List (Option ℕ)) → found.ports ≡ ports
+pub all_free : (firsts : List First) (clock_flags : List Bool) (names : List Word) (i : ℕ) → length names ≤ i
+    → (found : Columns) (inputs : List ℕ) → found.inputs ≡ inputs → (ports : List (Option ℕ)) → found.ports ≡ ports
     → map (slice_get names) inputs ++ map (λ name. Some name) (filter (is_free firsts clock_flags) (drop i names)) ≡ map (λ name. Some name) (filter (is_free firsts clock_flags) names)
     → length ports ≡ length firsts
     → ((name : Word) (k : ℕ) → number_named firsts name ≡ Some k → slice_get ports k ≡ Some (place_of_name (filter (is_free firsts clock_flags) (take i names)) name))
@@ -186,16 +195,19 @@ module _ (firsts : List First) (clock_flags : List Bool) (names : List Word) (i 
   abbrev somes_of : List Word → List (Option Word)
   somes_of list = map (λ (name : Word). Some name) list
 
-  taken_free : is_free firsts clock_flags x ≡ true → filter (is_free firsts clock_flags) (take (i + 1) names) ≡ filter (is_free firsts clock_flags) (take i names) ++ x ∷ []
+  taken_free : is_free firsts clock_flags x ≡ true
+      → filter (is_free firsts clock_flags) (take (i + 1) names) ≡ filter (is_free firsts clock_flags) (take i names) ++ x ∷ []
   taken_free free =
       taken_more (is_free firsts clock_flags) names i x within at ∙ ap (λ (b : Bool). filter (is_free firsts clock_flags) (take i names) ++ cond b (x ∷ []) []) free
 
-  taken_bound : is_free firsts clock_flags x ≡ false → filter (is_free firsts clock_flags) (take (i + 1) names) ≡ filter (is_free firsts clock_flags) (take i names)
+  taken_bound : is_free firsts clock_flags x ≡ false
+      → filter (is_free firsts clock_flags) (take (i + 1) names) ≡ filter (is_free firsts clock_flags) (take i names)
   taken_bound bound =
       taken_more (is_free firsts clock_flags) names i x within at ∙ ap (λ (b : Bool). filter (is_free firsts clock_flags) (take i names) ++ cond b (x ∷ []) []) bound
       ∙ append-nil (filter (is_free firsts clock_flags) (take i names))
 
-  left : (b : Bool) → is_free firsts clock_flags x ≡ b → filter (is_free firsts clock_flags) (drop i names) ≡ cond b (x ∷ filter (is_free firsts clock_flags) (drop (i + 1) names)) (filter (is_free firsts clock_flags) (drop (i + 1) names))
+  left : (b : Bool) → is_free firsts clock_flags x ≡ b
+      → filter (is_free firsts clock_flags) (drop i names) ≡ cond b (x ∷ filter (is_free firsts clock_flags) (drop (i + 1) names)) (filter (is_free firsts clock_flags) (drop (i + 1) names))
   left b is =
       left_more (is_free firsts clock_flags) names i x within at
       ∙ ap (λ (c : Bool). cond c (x ∷ filter (is_free firsts clock_flags) (drop (i + 1) names)) (filter (is_free firsts clock_flags) (drop (i + 1) names))) is
@@ -210,15 +222,18 @@ module _ (firsts : List First) (clock_flags : List Bool) (names : List Word) (i 
         ∙ ap (λ (o : Option Word). map (slice_get names) inputs ++ (o ∷ rest)) (slice_get_read names (length names) i x refl within at)
         ∙ sym (ap (λ (list : List Word). map (slice_get names) inputs ++ somes_of list) (left true free)) ∙ had
 
-    pub many_more : length inputs ≡ length (filter (is_free firsts clock_flags) (take i names)) → length new ≡ length (filter (is_free firsts clock_flags) (take (i + 1) names))
+    pub many_more : length inputs ≡ length (filter (is_free firsts clock_flags) (take i names))
+        → length new ≡ length (filter (is_free firsts clock_flags) (take (i + 1) names))
     many_more many =
         let one = ap (λ (list : List ℕ). length list) pushed ∙ length-append inputs (i ∷ []) in
         let other = ap (λ (list : List Word). length list) (taken_free free) ∙ length-append (filter (is_free firsts clock_flags) (take i names)) (x ∷ []) in
         omega (arith, one, other, many)
 
-    pub ports_more : length inputs ≡ length (filter (is_free firsts clock_flags) (take i names)) → (n : ℕ) → number_named firsts x ≡ Some n → (ports more : List (Option ℕ)) → more ≡ with_column ports n (length inputs)
+    pub ports_more : length inputs ≡ length (filter (is_free firsts clock_flags) (take i names)) → (n : ℕ) → number_named firsts x ≡ Some n
+        → (ports more : List (Option ℕ)) → more ≡ with_column ports n (length inputs)
         → ((name : Word) (k : ℕ) → number_named firsts name ≡ Some k → slice_get ports k ≡ Some (place_of_name (filter (is_free firsts clock_flags) (take i names)) name))
-        → (name : Word) (k : ℕ) → number_named firsts name ≡ Some k → slice_get more k ≡ Some (place_of_name (filter (is_free firsts clock_flags) (take (i + 1) names)) name)
+        → (name : Word) (k : ℕ) → number_named firsts name ≡ Some k
+        → slice_get more k ≡ Some (place_of_name (filter (is_free firsts clock_flags) (take (i + 1) names)) name)
     ports_more many n named ports more written had name k is =
         column_added firsts x n named (filter (is_free firsts clock_flags) (take i names)) ports more had (written ∙ ap (with_column ports n) many) name k is
         ∙ ap (λ (list : List Word). Some (place_of_name list name)) (sym (taken_free free))
@@ -230,10 +245,13 @@ module _ (firsts : List First) (clock_flags : List Bool) (names : List Word) (i 
         ap (λ (list : List ℕ). map (slice_get names) list ++ somes_of (filter (is_free firsts clock_flags) (drop (i + 1) names))) kept
         ∙ sym (ap (λ (list : List Word). map (slice_get names) inputs ++ somes_of list) (left false bound)) ∙ had
 
-    pub many_kept : length inputs ≡ length (filter (is_free firsts clock_flags) (take i names)) → length new ≡ length (filter (is_free firsts clock_flags) (take (i + 1) names))
+    pub many_kept : length inputs ≡ length (filter (is_free firsts clock_flags) (take i names))
+        → length new ≡ length (filter (is_free firsts clock_flags) (take (i + 1) names))
     many_kept many = ap (λ (list : List ℕ). length list) kept ∙ many ∙ sym (ap (λ (list : List Word). length list) (taken_bound bound))
 
-    pub ports_kept : (ports more : List (Option ℕ)) → more ≡ ports → ((name : Word) (k : ℕ) → number_named firsts name ≡ Some k → slice_get ports k ≡ Some (place_of_name (filter (is_free firsts clock_flags) (take i names)) name))
-        → (name : Word) (k : ℕ) → number_named firsts name ≡ Some k → slice_get more k ≡ Some (place_of_name (filter (is_free firsts clock_flags) (take (i + 1) names)) name)
+    pub ports_kept : (ports more : List (Option ℕ)) → more ≡ ports
+        → ((name : Word) (k : ℕ) → number_named firsts name ≡ Some k → slice_get ports k ≡ Some (place_of_name (filter (is_free firsts clock_flags) (take i names)) name))
+        → (name : Word) (k : ℕ) → number_named firsts name ≡ Some k
+        → slice_get more k ≡ Some (place_of_name (filter (is_free firsts clock_flags) (take (i + 1) names)) name)
     ports_kept ports more same had name k is =
         ap (λ (list : List (Option ℕ)). slice_get list k) same ∙ had name k is ∙ ap (λ (list : List Word). Some (place_of_name list name)) (sym (taken_bound bound))

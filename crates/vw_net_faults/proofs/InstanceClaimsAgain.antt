@@ -49,7 +49,8 @@ module _ (design : Design) (path : Path) where
   none_again none number position name claimed = none-some name (sym (none number claimed.item claimed.item_is) ∙ claimed.again)
 
   module _ (base : ℕ) (place_is : (place : ℕ) (item : Item) → item_at design path place ≡ Some item → place_of_site (sites design) path place ≡ Some (base + weights place)) where
-    pub first_claimed : (again : RepeatedClaim) → IsRepeatedClaim design (model_at design path) (Some again) → IsClaimedAt design path again.item (base + weights again.item) again.name
+    pub first_claimed : (again : RepeatedClaim) → IsRepeatedClaim design (model_at design path) (Some again)
+        → IsClaimedAt design path again.item (base + weights again.item) again.name
     first_claimed again is = record { item = is.0.0; item_is = is.0.1; again = is.0.2; place = place_is again.item is.0.0 is.0.1 }
 
     pub first_least : (again : RepeatedClaim) → IsRepeatedClaim design (model_at design path) (Some again) → AreFrom design path (base + weights again.item)
@@ -74,7 +75,8 @@ module _ (design : Design) (tables : Tables) (are : AreDesignTables design table
       subst (λ (again : Option RepeatedClaim). IsRepeatedClaim design (model_at design path) again) (sym same)
       (subst (λ (model : Option Model). IsRepeatedClaim design model found.0.again) (sym entry.2.stands) found.2.again)
 
-  pub position_is : (place : ℕ) (item : Item) → item_at design path place ≡ Some item → position_by tables instance place ≡ Some (entry.0.cells + instance + weights design path place)
+  pub position_is : (place : ℕ) (item : Item) → item_at design path place ≡ Some item
+      → position_by tables instance place ≡ Some (entry.0.cells + instance + weights design path place)
   position_is place item at =
       let found = are.before.each path entry.2.model entry.0.model entry.2.stands entry.2.model_is in
       let in_model : slice_get entry.2.model.items place ≡ Some item = sym (ap (λ (m : Option Model). slice_get (items_of m) place) entry.2.stands) ∙ at in

@@ -11,7 +11,8 @@ use Rattle.vw_instances.specs.Tables.{ArePlaced, IsEntryAt, IsPlacedBy}
 
 module _ (design : Design) (table : List ListedInstance) (are : ArePlaced design table) where
   -- the entry of a listed instance
-  pub entry_is : (k : ℕ) (path : Path) (entry : ListedInstance) → slice_get (instances design) k ≡ Some path → slice_get table k ≡ Some entry → IsEntryAt design (instances design) k path entry
+  pub entry_is : (k : ℕ) (path : Path) (entry : ListedInstance) → slice_get (instances design) k ≡ Some path
+      → slice_get table k ≡ Some entry → IsEntryAt design (instances design) k path entry
   entry_is k path entry listed at =
       let found = are.each k path listed in
       subst (λ (e : ListedInstance). IsEntryAt design (instances design) k path e) (same_Some found.0 entry (sym found.1 ∙ at)) found.2
@@ -37,7 +38,8 @@ module _ (design : Design) (table : List ListedInstance) (are : ArePlaced design
       (path, by.1, ap (λ (p : ℕ). p ∷ path) (sym by.0))
 
   -- the places so far, then those of the instance that was reached
-  pub further_up : (k : ℕ) (entry : ListedInstance) → slice_get table k ≡ Some entry → k ≢ 0 → (places : List ℕ) (path rest : Path) → slice_get (instances design) k ≡ Some rest → places ++ rest ≡ path
+  pub further_up : (k : ℕ) (entry : ListedInstance) → slice_get table k ≡ Some entry → k ≢ 0 → (places : List ℕ) (path rest : Path)
+      → slice_get (instances design) k ≡ Some rest → places ++ rest ≡ path
       → (new : List ℕ) → new ≡ places ++ (entry.place ∷ [])
       → (left : Path) × (slice_get (instances design) entry.parent ≡ Some left) × (new ++ left ≡ path)
   further_up k entry at some places path rest listed is new pushed =

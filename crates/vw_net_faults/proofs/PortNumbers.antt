@@ -43,7 +43,8 @@ module _ (root : List First) where
         absurd (true≢false (sym (equal_names one other (one_name root one other n is (also ∙ ap (λ (m : ℕ). Some m) (sym number)))) ∙ differ))
     by false differ false equal = refl
 
-  port_is : (source : Option Source) (name : Word) → source ≡ option_map (λ number. Port number) (number_named root name) → (number : Option ℕ) → number_named root name ≡ number → is_none source ≡ false
+  port_is : (source : Option Source) (name : Word) → source ≡ option_map (λ number. Port number) (number_named root name)
+      → (number : Option ℕ) → number_named root name ≡ number → is_none source ≡ false
       → number ∷ [] ≡ somes (option_to_list (port_number source))
   port_is source name is None named some = absurd (true≢false (sym (ap is_none (is ∙ ap (option_map (λ (number : ℕ). Port number)) named)) ∙ some))
   port_is source name is (Some number) named some =
@@ -54,14 +55,16 @@ module _ (root : List First) where
   cell_is source (Some number) is = sym (ap (λ (s : Option Source). somes (option_to_list (port_number s))) is)
 
   -- the port that a driver is
-  pub source_port : (design : Design) (source : Option Source) (found : Option PathSource) → source ≡ source_of design root found → is_none source ≡ is_none found
+  pub source_port : (design : Design) (source : Option Source) (found : Option PathSource) → source ≡ source_of design root found
+      → is_none source ≡ is_none found
       → map (number_named root) (option_to_list (port_of found)) ≡ somes (option_to_list (port_number source))
   source_port design source None is none = sym (ap (λ (s : Option Source). somes (option_to_list (port_number s))) is)
   source_port design source (Some (at_port name)) is none = port_is source name is (number_named root name) refl none
   source_port design source (Some (at_cell path item)) is none = cell_is source (place_of_site (cells design) path item) is
 
   -- further ports
-  pub more_ports : (ports new : List ℕ) (found : Option ℕ) (here rest : List Word) → new ≡ ports ++ option_to_list found → map (number_named root) here ≡ somes (option_to_list found)
+  pub more_ports : (ports new : List ℕ) (found : Option ℕ) (here rest : List Word) → new ≡ ports ++ option_to_list found
+      → map (number_named root) here ≡ somes (option_to_list found)
       → somes new ++ map (number_named root) rest ≡ somes ports ++ map (number_named root) (here ++ rest)
   more_ports ports new found here rest is ports_here =
       ap (λ (list : List ℕ). somes list ++ map (number_named root) rest) is
@@ -81,7 +84,8 @@ only_one None = refl
 only_one (Some x) = refl
 
 -- an item with a control, and one without
-pub ports_here : (design : Design) (path : Path) (item : Item) (control : Word) → control ∷ [] ≡ controls_of item → item_ports design path item ≡ option_to_list (port_of (driver design path control))
+pub ports_here : (design : Design) (path : Path) (item : Item) (control : Word) → control ∷ [] ≡ controls_of item
+    → item_ports design path item ≡ option_to_list (port_of (driver design path control))
 ports_here design path item control is =
     ap (filter_map (λ (name : Word). port_of (driver design path name))) (sym is) ∙ only_one (port_of (driver design path control))
 
@@ -94,7 +98,8 @@ module _ (design : Design) where
   abbrev pub of_cells : List Site → List Word
   of_cells list = flat_map (λ site. item_ports design site.path site.item) list
 
-  by_site : (list : List Site) → filter_map (λ net. port_of (driver design net.path net.name)) (flat_map (λ site. nets_at site (controls_of site.item)) list) ≡ of_cells list
+  by_site : (list : List Site)
+      → filter_map (λ net. port_of (driver design net.path net.name)) (flat_map (λ site. nets_at site (controls_of site.item)) list) ≡ of_cells list
   by_site [] = refl
   by_site (site ∷ list) =
       filter_map-append (λ (net : Net). port_of (driver design net.path net.name)) (nets_at site (controls_of site.item)) (flat_map (λ (s : Site). nets_at s (controls_of s.item)) list)

@@ -22,7 +22,8 @@ module _ {A : Type 0} (made : Path → Item → List A) (none : (path : Path) (l
   kept path (Latch line d q edge control init) list more site here is rest = ap₂ (λ (p : Path) (x : Item). made p x ++ of_sites list) (sym here) (sym is) ∙ ap (λ (l : List A). made site.path site.item ++ l) rest
   kept path (Sub line model binds) list more site here is rest = ap (λ (l : List A). l ++ of_sites list) (none path line model binds) ∙ rest
 
-  pub of_cells_alone : (list : List Site) → flat_map (λ site. made site.path site.item) list ≡ flat_map (λ site. made site.path site.item) (filter (λ site. is_cell site.item) list)
+  pub of_cells_alone : (list : List Site)
+      → flat_map (λ site. made site.path site.item) list ≡ flat_map (λ site. made site.path site.item) (filter (λ site. is_cell site.item) list)
   of_cells_alone [] = refl
   of_cells_alone (site ∷ list) = kept site.path site.item list (filter (λ (s : Site). is_cell s.item) list) site refl refl (of_cells_alone list)
 

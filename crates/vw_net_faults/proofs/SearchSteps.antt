@@ -31,6 +31,7 @@ module _ {A B : Type 0} (f : A → Option B) (xs : List A) (i : ℕ) (x : A) (wi
 pub find_map : {A B : Type 0} (f : A → B) (test : B → Bool) (xs : List A) → find test (map f xs) ≡ option_map f (find (λ x. test (f x)) xs)
 find_map f test [] = refl
 find_map {A} f test (x ∷ xs) = by (test (f x)) (find_map f test xs) where
-  by : (b : Bool) → find test (map f xs) ≡ option_map f (find (λ (y : A). test (f y)) xs) → cond b (Some (f x)) (find test (map f xs)) ≡ option_map f (cond b (Some x) (find (λ (y : A). test (f y)) xs))
+  by : (b : Bool) → find test (map f xs) ≡ option_map f (find (λ (y : A). test (f y)) xs)
+      → cond b (Some (f x)) (find test (map f xs)) ≡ option_map f (cond b (Some x) (find (λ (y : A). test (f y)) xs))
   by true rest = refl
   by false rest = rest

@@ -37,7 +37,8 @@ module _ (root : List First) where
       let rest : map (number_named root) names ≡ somes numbers = cc in
       by (not (bytes_eq one name)) (not (n == k)) (ap not (same_numbers root one name n k is first)) first (alike one n is names numbers rest)
     where
-      by : (b c : Bool) → b ≡ c → number_named root name ≡ Some k → IsAlike root (find (λ other. not (bytes_eq one other)) names) (find (λ number. not (n == number)) numbers)
+      by : (b c : Bool) → b ≡ c → number_named root name ≡ Some k
+          → IsAlike root (find (λ other. not (bytes_eq one other)) names) (find (λ number. not (n == number)) numbers)
           → IsAlike root (cond b (Some name) (find (λ other. not (bytes_eq one other)) names)) (cond c (Some k) (find (λ number. not (n == number)) numbers))
       by true true same first rest = first
       by true false same first rest = cc
@@ -49,7 +50,8 @@ module _ (root : List First) where
   alike_none (Some name) None is none = absurd is
   alike_none (Some name) (Some number) is none = cc
 
-  alike_some : (name : Option Word) (number : Option ℕ) → IsAlike root name number → (n : ℕ) → Some n ≡ number → (found : Word) × (name ≡ Some found) × (number_named root found ≡ Some n)
+  alike_some : (name : Option Word) (number : Option ℕ) → IsAlike root name number → (n : ℕ) → Some n ≡ number
+      → (found : Word) × (name ≡ Some found) × (number_named root found ≡ Some n)
   alike_some None None is n some = cc
   alike_some None (Some number) is n some = absurd is
   alike_some (Some name) None is n some = cc
@@ -94,7 +96,8 @@ module _ (design : Design) where
         (alike_none root (find (λ other. not (bytes_eq one.0 other)) (control_ports design)) (find (λ number. not (n == number)) numbers) (alike root one.0 n one.2 (control_ports design) numbers are) none)))
 
     pub two_clocks : (k : ℕ) → Some k ≡ find (λ number. not (n == number)) numbers
-        → {P : Type 0} → ((first other : Word) → has_name (root_ports design) first ≡ true → has_name (root_ports design) other ≡ true → number_named root first ≡ Some n → number_named root other ≡ Some k
+        → {P : Type 0}
+        → ((first other : Word) → has_name (root_ports design) first ≡ true → has_name (root_ports design) other ≡ true → number_named root first ≡ Some n → number_named root other ≡ Some k
         → Some (record { first = first; other = other }) ≡ ports_pair (several_clocks design) → P) → P
     two_clocks k some then =
         let found = alike_some root (find (λ other. not (bytes_eq one.0 other)) (control_ports design)) (find (λ number. not (n == number)) numbers) (alike root one.0 n one.2 (control_ports design) numbers are) k some in

@@ -9,7 +9,8 @@ use Rattle.vw_check.specs.HopFaults.{bad_pin, broken_route, out_of_order, past_p
 use Rattle.vw_check.proofs.FaultOrder.{no_fault, some_or}
 use Rattle.vw_check.proofs.checker.hop_fault.Goals as goal
 
-in_turn : (route pin order period clash : Option PlanFault) → option_or route (option_or pin (option_or order (option_or period (option_or clash None)))) ≡ option_or (option_or (option_or (option_or route pin) order) period) clash
+in_turn : (route pin order period clash : Option PlanFault)
+    → option_or route (option_or pin (option_or order (option_or period (option_or clash None)))) ≡ option_or (option_or (option_or (option_or route pin) order) period) clash
 in_turn None None None None clash = or_nothing clash
 in_turn None None None (Some fault) clash = refl
 in_turn None None (Some fault) period clash = refl

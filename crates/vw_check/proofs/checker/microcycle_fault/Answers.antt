@@ -15,15 +15,18 @@ use Rattle.vw_ready.proofs.HomeLeads.{microcycles_right}
 use Rattle.vw_ready.proofs.WiresBrought.{brought_by}
 use Rattle.vw_check.proofs.checker.microcycle_fault.Goals as goal
 
-early_or_late : (planned : PlannedBoard) (early late : Option PlanFault) → early ≡ too_early planned → late ≡ late_latch planned → option_or early late ≡ microcycle_fault planned
+early_or_late : (planned : PlannedBoard) (early late : Option PlanFault) → early ≡ too_early planned → late ≡ late_latch planned
+    → option_or early late ≡ microcycle_fault planned
 early_or_late planned early late one two =
     ap (λ (found : Option PlanFault). option_or found late) one
     ∙ ap (option_or (too_early planned)) (two ∙ sym (or_nothing (late_latch planned)))
 
 -- what is known of microcycles is right
 module _ (wired : Wired) (arrivals leads later items chips : List ℕ) (settle : ℕ) where
-  right : AreArrivals (planned_in wired) arrivals → later ≡ arrivals → AreLeads (planned_in wired) leads → items ≡ leads → chips ≡ wired.plan.now.chip_of → settle ≡ wired.board.now.settle
-      → (node net : ℕ) → net < wired.ordered.now.flat.inputs + length wired.ordered.now.flat.cells → usable_by wired.ordered.now.flat chips settle (arrival_by wired.wires.now.places later) items node net ≡ usable (planned_in wired) node net
+  right : AreArrivals (planned_in wired) arrivals → later ≡ arrivals → AreLeads (planned_in wired) leads → items ≡ leads
+      → chips ≡ wired.plan.now.chip_of → settle ≡ wired.board.now.settle
+      → (node net : ℕ) → net < wired.ordered.now.flat.inputs + length wired.ordered.now.flat.cells
+      → usable_by wired.ordered.now.flat chips settle (arrival_by wired.wires.now.places later) items node net ≡ usable (planned_in wired) node net
   right are later_is its items_are chips_are settle_is =
       let planned = planned_in wired in
       microcycles_right planned (lead-by_driver planned) leads items chips settle (arrival_by wired.wires.now.places later) its items_are chips_are settle_is (brought_by planned wired.wires.now.places later wired.has_wires (later_is ∙ are.are))

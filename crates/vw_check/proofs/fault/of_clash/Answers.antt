@@ -4,7 +4,8 @@ use Rattle.std.specs.Fmt.{decimal}
 use Rattle.std.specs.Prelude.{codes}
 use Rattle.vw_check.proofs.fault.of_clash.Goals as goal
 
-pieces_joined : (before first between second rest : List ℕ) → (before ++ (first ++ (between ++ (second ++ [])))) ++ rest ≡ before ++ (first ++ (between ++ (second ++ rest)))
+pieces_joined : (before first between second rest : List ℕ)
+    → (before ++ (first ++ (between ++ (second ++ [])))) ++ rest ≡ before ++ (first ++ (between ++ (second ++ rest)))
 pieces_joined before first between second rest = simp append_assoc
 
 pub returns : goal.returns

@@ -15,7 +15,9 @@ module _ (rule : Rule) (planned : PlannedBoard) where
   in_wire number wire = first_in_wire rule planned.board planned.plan.period (home planned wire.net) number wire
 
   -- what the code finds in a wire
-  is_in_wire : (number : ℕ) (wire other : Wire) (flat : Flat) (chips : List ℕ) (net from : ℕ) (found : Option PlanFault) → flat ≡ planned.ordered.flat → chips ≡ planned.plan.chip_of → net ≡ wire.net → from ≡ node_of flat chips net → found ≡ first_in_wire rule planned.board planned.plan.period from number wire → wire ≡ other → in_wire number other ≡ found
+  is_in_wire : (number : ℕ) (wire other : Wire) (flat : Flat) (chips : List ℕ) (net from : ℕ) (found : Option PlanFault)
+      → flat ≡ planned.ordered.flat → chips ≡ planned.plan.chip_of → net ≡ wire.net → from ≡ node_of flat chips net
+      → found ≡ first_in_wire rule planned.board planned.plan.period from number wire → wire ≡ other → in_wire number other ≡ found
   is_in_wire number wire other flat chips net from found flats listed nets home_is is same =
       let at_home : from ≡ home planned wire.net = home_is ∙ ap (λ (netlist : Flat). node_of netlist chips net) flats ∙ ap₂ (node_of planned.ordered.flat) listed nets in
       sym (is ∙ ap (λ (node : ℕ). first_in_wire rule planned.board planned.plan.period node number wire) at_home ∙ ap (in_wire number) same)

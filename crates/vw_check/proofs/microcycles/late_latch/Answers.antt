@@ -24,7 +24,8 @@ node_of_cell flat chip_of number =
     rw (behind, same) refl
 
 -- what the code finds usable on a latch's chip is the latch's microcycle
-microcycle : (planned : PlannedBoard) (chip_of : List ℕ) (number d found : ℕ) → chip_of ≡ planned.plan.chip_of → found ≡ usable planned (get_or chip_of number 0) d → found ≡ latch_microcycle planned number d
+microcycle : (planned : PlannedBoard) (chip_of : List ℕ) (number d found : ℕ) → chip_of ≡ planned.plan.chip_of
+    → found ≡ usable planned (get_or chip_of number 0) d → found ≡ latch_microcycle planned number d
 microcycle planned chip_of number d found chips is =
     let node : get_or chip_of number 0 ≡ home planned (planned.ordered.flat.inputs + number) = ap (λ (chips : List ℕ). get_or chips number 0) chips ∙ sym (node_of_cell planned.ordered.flat planned.plan.chip_of number) in
     is ∙ ap (λ (one : ℕ). usable planned one d) node

@@ -25,11 +25,13 @@ module _ (planned : PlannedBoard) (number : ℕ) (wire : Wire) where
   fault_of hop = found_unless (nat_le home_microcycle hop.at) (TooEarly number hop.at home_microcycle)
 
   -- what the code finds usable at a net's own node is the net's microcycle
-  microcycle : (flat : Flat) (chips : List ℕ) (net again node found : ℕ) → flat ≡ planned.ordered.flat → chips ≡ planned.plan.chip_of → net ≡ wire.net → again ≡ wire.net → node ≡ node_of flat chips net → found ≡ usable planned node again → found ≡ home_microcycle
+  microcycle : (flat : Flat) (chips : List ℕ) (net again node found : ℕ) → flat ≡ planned.ordered.flat → chips ≡ planned.plan.chip_of
+      → net ≡ wire.net → again ≡ wire.net → node ≡ node_of flat chips net → found ≡ usable planned node again → found ≡ home_microcycle
   microcycle flat chips net again node found flats listed one other home is =
       is ∙ ap₂ (usable planned) (home ∙ ap (λ (netlist : Flat). node_of netlist chips net) flats ∙ ap₂ (node_of planned.ordered.flat) listed one) other
 
-  early : (hop : Hop) (sent found : ℕ) → slice_get wire.hops 0 ≡ Some hop → found ≡ home_microcycle → sent ≡ hop.at → sent < found → early_wire planned number wire ≡ Some (TooEarly number sent found)
+  early : (hop : Hop) (sent found : ℕ) → slice_get wire.hops 0 ≡ Some hop → found ≡ home_microcycle → sent ≡ hop.at → sent < found
+      → early_wire planned number wire ≡ Some (TooEarly number sent found)
   early hop sent found first at when before =
       ap (option_and_then fault_of) first
       ∙ ap₂ (λ (hop_at from : ℕ). found_unless (nat_le from hop_at) (TooEarly number hop_at from)) (sym when) (sym at)

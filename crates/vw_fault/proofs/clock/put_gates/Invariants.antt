@@ -13,5 +13,6 @@ invariant-loop-number l = record {
   values : (lane : ℕ) → lane < 64 → (value : ℕ → Bool)
       → ((net : ℕ) → is_ready l.ordered.flat.inputs l.ordered.flat.cells [] net ≡ true → slice_index_or (lane_bits lane l.initial.words) net false ≡ value net)
       → ((number : ℕ) (ins : List ℕ) (cover : Cover) → slice_get l.ordered.flat.cells number ≡ Some (Gate ins cover) → value (l.ordered.flat.inputs + number) ≡ find_in l.stuck lane (l.ordered.flat.inputs + number) (cover_value cover (map value ins)))
-      → (net : ℕ) → is_ready l.ordered.flat.inputs l.ordered.flat.cells (take l.number-index l.ordered.order) net ≡ true → slice_index_or (lane_bits lane l.words) net false ≡ value net;
+      → (net : ℕ) → is_ready l.ordered.flat.inputs l.ordered.flat.cells (take l.number-index l.ordered.order) net ≡ true
+      → slice_index_or (lane_bits lane l.words) net false ≡ value net;
 }

@@ -9,5 +9,6 @@ abbrev pub invariant-loop-number : goal.invariant-loop-number
 invariant-loop-number l = record {
   nets : length l.words ≡ length l.initial.words;
   left : l.latch + latch_count (drop l.number l.cell-items) ≡ latch_count l.cell-items;
-  put : (lane : ℕ) → lane < 64 → ArePut (find_in l.stuck lane) l.first l.cell-items (lane_bits lane l.state) (lane_bits lane l.initial.words) (lane_bits lane l.words) l.number;
+  put : (lane : ℕ) → lane < 64
+      → ArePut (find_in l.stuck lane) l.first l.cell-items (lane_bits lane l.state) (lane_bits lane l.initial.words) (lane_bits lane l.words) l.number;
 }

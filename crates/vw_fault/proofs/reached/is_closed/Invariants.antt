@@ -6,4 +6,5 @@ use Rattle.vw_fault.proofs.reached.is_closed.Given as goal
 
 abbrev pub invariant-loop-number : goal.invariant-loop-number
 invariant-loop-number l =
-    (number : ℕ) → number < l.number → is_marked l.marks (l.flat.inputs + number) ≡ true → All (λ net. is_marked l.marks net ≡ true) (read_nets_at (slice_get l.flat.cells number))
+    (number : ℕ) → number < l.number → is_marked l.marks (l.flat.inputs + number) ≡ true
+    → All (λ net. is_marked l.marks net ≡ true) (read_nets_at (slice_get l.flat.cells number))

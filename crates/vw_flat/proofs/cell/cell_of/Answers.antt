@@ -38,7 +38,8 @@ returns-in_ok-copy-in-Names-clause-fits c =
     (ap (λ (list : List ℕ). length list) c.of.ensures ∙ long ∙ sym c.in_ok-copy-in-Names.ensures.inputs, subst (All (λ (n : ℕ). n < net_count design)) (sym c.of.ensures) c.in_ok-ins-in-Names.ensures.fit)
 
 -- a latch reads the one net that its site reads as data
-latch_of_site : (design : Design) (site : Option Site) (item : Item) (line : ℕ) (d q : Word) (edge : Edge) (control : Option Word) (init : Init) (net : ℕ) → item_with_numbers site ≡ Some item
+latch_of_site : (design : Design) (site : Option Site) (item : Item) (line : ℕ) (d q : Word) (edge : Edge) (control : Option Word) (init : Init) (net : ℕ)
+    → item_with_numbers site ≡ Some item
     → item ≡ LatchItem line d q edge control init → slice_get (numbers_at design site) 0 ≡ Some (Some net) → IsCellAt design site (Latch net init)
 latch_of_site design None item line d q edge control init net at is reads = absurd (none-some item at)
 latch_of_site design (Some site) item line d q edge control init net at is reads =

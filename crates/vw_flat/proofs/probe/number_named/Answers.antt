@@ -1,4 +1,4 @@
-use Rattle.std.proofs.Common.{◌≡◌, ◌<◌, ◌^◌, ℕ, Option, Some, None, length, slice_get, sym, ◌∙◌, ap, subst, arith}
+use Rattle.std.proofs.Common.{◌≡◌, ℕ, Option, Some, None, length, sym, ◌∙◌, ap, arith}
 use Rattle.vw_design.specs.declared.design.Design.{Design}
 use Rattle.vw_design.specs.Accepted.{IsAccepted}
 use Rattle.vw_design.specs.Clocks.{columns}
@@ -10,14 +10,15 @@ use Rattle.vw_design.proofs.ListPlaces.{at_within}
 use Rattle.vw_design.proofs.Sizes.{few_columns}
 use Rattle.vw_elab.specs.declared.driver.Driver.{Driver}
 use Rattle.vw_elab.specs.Numbers.{driver_of}
-use Rattle.vw_flat.specs.Steps.Numbers.{number_by, Has32Bits, net_count}
+use Rattle.vw_flat.specs.Steps.Numbers.{number_by, Has32Bits}
 use Rattle.vw_flat.proofs.Readings.{numbers_agree}
 use Rattle.vw_flat.proofs.SearchSteps.{number_fits}
 use Rattle.vw_flat.proofs.probe.number_named.Goals as goal
 
 module _ (design : Design) (path : Path) (name : Word) where
   -- the number of the driver is that of the net
-  same_number : (count : ℕ) (driven : Option Driver) → count ≡ length (columns design) → driven ≡ driver_of design (driver design path name) → number_by count driven ≡ number_of design path name
+  same_number : (count : ℕ) (driven : Option Driver) → count ≡ length (columns design) → driven ≡ driver_of design (driver design path name)
+      → number_by count driven ≡ number_of design path name
   same_number count driven counted is =
       ap (λ (n : ℕ). number_by n driven) counted ∙ ap (number_by (length (columns design))) is ∙ numbers_agree design (driver design path name)
 

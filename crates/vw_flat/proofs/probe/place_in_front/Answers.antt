@@ -1,4 +1,4 @@
-use Rattle.std.proofs.Common.{◌≤◌, ◌∙◌, ◌^◌, sym, arith}
+use Rattle.std.proofs.Common.{sym, arith}
 use Rattle.vw_flat.proofs.PlacesInFront.{cut_none, front_no_number, front_large, front_place}
 use Rattle.vw_flat.proofs.probe.place_in_front.Goals as goal
 

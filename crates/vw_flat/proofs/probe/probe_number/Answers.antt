@@ -1,12 +1,11 @@
-use Rattle.std.proofs.Common.{◌≡◌, ◌<◌, ◌∙◌, ℕ, Bool, true, false, Option, Some, None, sym, ap, subst, true≢false}
-use Rattle.std.specs.Prelude.{is_some, slice_get}
+use Rattle.std.proofs.Common.{◌≡◌, ◌∙◌, ℕ, Bool, true, false, Option, Some, None, sym, subst, true≢false}
+use Rattle.std.specs.Prelude.{is_some}
 use Rattle.std.proofs.lemmas.Option.{slice_get_within}
 use Rattle.vw_design.specs.declared.design.Design.{Design}
 use Rattle.vw_design.specs.Accepted.{IsAccepted}
 use Rattle.vw_design.specs.Preorder.{instances}
 use Rattle.vw_design.specs.Flattened.{number_of}
-use Rattle.vw_design.specs.Paths.{Path, Word}
-use Rattle.vw_flat.specs.Steps.Numbers.{net_count}
+use Rattle.vw_design.specs.Paths.{Word}
 use Rattle.vw_flat.specs.Steps.Searches.{IsNumberOf}
 use Rattle.vw_flat.proofs.SearchSteps.{IsOnTheWay, at_root, found_here, none_without_place, none_without_child, on_deeper, word_shorter, found_from_root, number_fits}
 use Rattle.vw_flat.proofs.probe.probe_number.Goals as goal

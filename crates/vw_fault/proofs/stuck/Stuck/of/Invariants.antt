@@ -9,6 +9,7 @@ abbrev pub invariant-loop-lane : goal.invariant-loop-lane
 invariant-loop-lane l = record {
   kept : length l.stuck.kept ≡ l.nets;
   forced : length l.stuck.forced ≡ l.nets;
-  put : (lane : ℕ) (fault : Open) → lane < l.lane → slice_get l.faults lane ≡ Some fault → (net : ℕ) (bit : Bool) → find_in l.stuck lane net bit ≡ find_stuck fault net bit;
+  put : (lane : ℕ) (fault : Open) → lane < l.lane → slice_get l.faults lane ≡ Some fault → (net : ℕ) (bit : Bool)
+      → find_in l.stuck lane net bit ≡ find_stuck fault net bit;
   plain : (lane : ℕ) → lane < 64 → l.lane ≤ lane → (net : ℕ) (bit : Bool) → find_in l.stuck lane net bit ≡ bit;
 }

@@ -11,5 +11,6 @@ invariant-loop-place l = record {
   inputs : map (slice_get l.names) l.inputs.items ++ map (λ (name : Word). Some name) (filter (is_free l.claims.firsts l.clock_flags) (drop l.place l.names)) ≡ map (λ (name : Word). Some name) (filter (is_free l.claims.firsts l.clock_flags) l.names);
   many : length l.inputs.items ≡ length (filter (is_free l.claims.firsts l.clock_flags) (take l.place l.names));
   count : length l.ports.items ≡ length l.claims.firsts;
-  ports : (name : Word) (number : ℕ) → number_named l.claims.firsts name ≡ Some number → slice_get l.ports.items number ≡ Some (place_of_name (filter (is_free l.claims.firsts l.clock_flags) (take l.place l.names)) name);
+  ports : (name : Word) (number : ℕ) → number_named l.claims.firsts name ≡ Some number
+      → slice_get l.ports.items number ≡ Some (place_of_name (filter (is_free l.claims.firsts l.clock_flags) (take l.place l.names)) name);
 }

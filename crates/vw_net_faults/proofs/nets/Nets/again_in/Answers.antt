@@ -7,7 +7,8 @@ use Rattle.vw_net_faults.proofs.CellItems.{listed_at}
 use Rattle.vw_net_faults.proofs.nets.Nets.again_in.Goals as goal
 
 -- look-up by look-up
-again_found : (tables : Tables) (instance : ℕ) (entry : ListedInstance) (claims : ModelClaims) → slice_get tables.instances instance ≡ Some entry → slice_get tables.claims entry.model ≡ Some claims
+again_found : (tables : Tables) (instance : ℕ) (entry : ListedInstance) (claims : ModelClaims)
+    → slice_get tables.instances instance ≡ Some entry → slice_get tables.claims entry.model ≡ Some claims
     → again_by tables instance ≡ claims.again
 again_found tables instance entry claims first second = rw (first, second) refl
 

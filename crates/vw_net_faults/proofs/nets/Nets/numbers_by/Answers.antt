@@ -8,7 +8,8 @@ use Rattle.vw_net_faults.proofs.CellItems.{listed_at}
 use Rattle.vw_net_faults.proofs.nets.Nets.numbers_by.Goals as goal
 
 -- look-up by look-up
-numbers_found : (tables : Tables) (cell : CellSite) (entry : ListedInstance) (names : ModelNames) (numbers : List (Option ℕ)) → slice_get tables.instances cell.instance ≡ Some entry
+numbers_found : (tables : Tables) (cell : CellSite) (entry : ListedInstance) (names : ModelNames) (numbers : List (Option ℕ))
+    → slice_get tables.instances cell.instance ≡ Some entry
     → slice_get tables.names entry.model ≡ Some names → slice_get names.reads cell.item ≡ Some numbers → numbers_by tables cell ≡ Some numbers
 numbers_found tables cell entry names numbers first second third = rw (first, second, third) refl
 

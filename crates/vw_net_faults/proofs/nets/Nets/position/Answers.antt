@@ -7,8 +7,10 @@ use Rattle.vw_net_faults.proofs.CellItems.{listed_at}
 use Rattle.vw_net_faults.proofs.nets.Nets.position.Goals as goal
 
 -- look-up by look-up
-position_found : (tables : Tables) (instance item : ℕ) (entry : ListedInstance) (list : List Before) (before : Before) → slice_get tables.instances instance ≡ Some entry
-    → slice_get tables.before entry.model ≡ Some list → slice_get list item ≡ Some before → position_by tables instance item ≡ Some (entry.cells + instance + (before.cells + before.instances))
+position_found : (tables : Tables) (instance item : ℕ) (entry : ListedInstance) (list : List Before) (before : Before)
+    → slice_get tables.instances instance ≡ Some entry
+    → slice_get tables.before entry.model ≡ Some list → slice_get list item ≡ Some before
+    → position_by tables instance item ≡ Some (entry.cells + instance + (before.cells + before.instances))
 position_found tables instance item entry list before first second third = rw (first, second, third) refl
 
 pub returns : goal.returns

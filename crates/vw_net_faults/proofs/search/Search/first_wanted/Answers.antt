@@ -7,7 +7,8 @@ use Rattle.vw_net_faults.specs.Steps.Wanted.{wanted_among, wanted_read}
 use Rattle.vw_net_faults.proofs.search.Search.first_wanted.Goals as goal
 
 -- a name of the root where nothing was found before
-of_root : (read : Option Net) (found : Option Word) → found ≡ printed_net read → is_some found ≡ false → (output : Option Word) (name : Word) → Some name ≡ output → (net : Word) → net ≡ printed (net_at [] name)
+of_root : (read : Option Net) (found : Option Word) → found ≡ printed_net read → is_some found ≡ false
+    → (output : Option Word) (name : Word) → Some name ≡ output → (net : Word) → net ≡ printed (net_at [] name)
     → Some net ≡ printed_net (option_or read (option_map (net_at []) output))
 of_root None found is none output name some net same = ap (λ (w : Word). Some w) same ∙ ap (λ (o : Option Word). printed_net (option_map (net_at []) o)) some
 of_root (Some read) found is none output name some net same = absurd (true≢false (sym (ap is_some is) ∙ none))
