@@ -24,21 +24,29 @@ last_turn (suc (suc (suc rest))) low none one = absurd (omega (arith, low))
 
 pub evaluates : (inputs gate : ℕ) (entry : Entry) → Evaluate gate ≡ action_of inputs entry → (is_evaluating entry ≡ true) × (gate ≡ entry.net - inputs)
 evaluates inputs gate entry is = by (is_evaluating entry) (is_sending entry) refl is where
-  by : (first second : Bool) → is_evaluating entry ≡ first → Evaluate gate ≡ (if first then Evaluate (entry.net - inputs) else (if second then Send entry.link entry.place entry.net else Take entry.link entry.place entry.net)) → (is_evaluating entry ≡ true) × (gate ≡ entry.net - inputs)
+  by : (first second : Bool) → is_evaluating entry ≡ first
+      → Evaluate gate ≡ (if first then Evaluate (entry.net - inputs) else (if second then Send entry.link entry.place entry.net else Take entry.link entry.place entry.net))
+      → (is_evaluating entry ≡ true) × (gate ≡ entry.net - inputs)
   by true second one same = (one, cc)
   by false true one same = cc
   by false false one same = cc
 
-pub sends : (inputs link pin net : ℕ) (entry : Entry) → Send link pin net ≡ action_of inputs entry → (is_sending entry ≡ true) × (link ≡ entry.link) × (pin ≡ entry.place) × (net ≡ entry.net)
+pub sends : (inputs link pin net : ℕ) (entry : Entry) → Send link pin net ≡ action_of inputs entry
+    → (is_sending entry ≡ true) × (link ≡ entry.link) × (pin ≡ entry.place) × (net ≡ entry.net)
 sends inputs link pin net entry is = by (is_evaluating entry) (is_sending entry) refl is where
-  by : (first second : Bool) → is_sending entry ≡ second → Send link pin net ≡ (if first then Evaluate (entry.net - inputs) else (if second then Send entry.link entry.place entry.net else Take entry.link entry.place entry.net)) → (is_sending entry ≡ true) × (link ≡ entry.link) × (pin ≡ entry.place) × (net ≡ entry.net)
+  by : (first second : Bool) → is_sending entry ≡ second
+      → Send link pin net ≡ (if first then Evaluate (entry.net - inputs) else (if second then Send entry.link entry.place entry.net else Take entry.link entry.place entry.net))
+      → (is_sending entry ≡ true) × (link ≡ entry.link) × (pin ≡ entry.place) × (net ≡ entry.net)
   by true second two same = cc
   by false true two same = (two, cc, cc, cc)
   by false false two same = cc
 
-pub takes : (inputs link pin net : ℕ) (entry : Entry) → Take link pin net ≡ action_of inputs entry → (is_taking entry ≡ true) × (link ≡ entry.link) × (net ≡ entry.net)
+pub takes : (inputs link pin net : ℕ) (entry : Entry) → Take link pin net ≡ action_of inputs entry
+    → (is_taking entry ≡ true) × (link ≡ entry.link) × (net ≡ entry.net)
 takes inputs link pin net entry is = by (is_evaluating entry) (is_sending entry) refl refl is where
-  by : (first second : Bool) → is_evaluating entry ≡ first → is_sending entry ≡ second → Take link pin net ≡ (if first then Evaluate (entry.net - inputs) else (if second then Send entry.link entry.place entry.net else Take entry.link entry.place entry.net)) → (is_taking entry ≡ true) × (link ≡ entry.link) × (net ≡ entry.net)
+  by : (first second : Bool) → is_evaluating entry ≡ first → is_sending entry ≡ second
+      → Take link pin net ≡ (if first then Evaluate (entry.net - inputs) else (if second then Send entry.link entry.place entry.net else Take entry.link entry.place entry.net))
+      → (is_taking entry ≡ true) × (link ≡ entry.link) × (net ≡ entry.net)
   by true second one two same = cc
   by false true one two same = cc
   by false false one two same = (last_turn (entry.moment % 3) (omega arith) one two, cc, cc)
@@ -51,7 +59,8 @@ module _ (planned : PlannedBoard) (node made : ℕ) (under : made ≤ length (en
   inputs = planned.ordered.flat.inputs
 
   -- the next action is an entry's, or the step
-  pub next_entry : (action : Action) → slice_get (actions planned node) made ≡ Some action → ((entry : Entry) × ((slice_get own made ≡ Some entry) × (action ≡ action_of inputs entry))) ⊎ ((made ≡ length own) × (action ≡ Step))
+  pub next_entry : (action : Action) → slice_get (actions planned node) made ≡ Some action
+      → ((entry : Entry) × ((slice_get own made ≡ Some entry) × (action ≡ action_of inputs entry))) ⊎ ((made ≡ length own) × (action ≡ Step))
   next_entry action is =
       let none : Entry = record { moment = 0; link = 0; place = 0; node = 0; net = 0 } in
       let if_entry = λ (below : made < length own).
@@ -68,7 +77,8 @@ module _ (planned : PlannedBoard) (node made : ℕ) (under : made ≤ length (en
       ⊎_elim if_entry if_step (cases_lt made (length own))
 
   -- an action that a program has there
-  pub next_is : (program : List Action) (default action : Action) → program ≡ actions planned node → get_or program made default ≡ action → slice_get (actions planned node) made ≡ Some action
+  pub next_is : (program : List Action) (default action : Action) → program ≡ actions planned node → get_or program made default ≡ action
+      → slice_get (actions planned node) made ≡ Some action
   next_is program default action is here =
       let within : made < length program = omega (arith, under, ap length is, length-append (map (action_of inputs) own) (Step ∷ []), length-map own (action_of inputs)) in
       ap (λ (list : List Action). slice_get list made) (sym is) ∙ slice_get-get_or program made default within ∙ ap Some here

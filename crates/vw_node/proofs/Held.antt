@@ -53,7 +53,8 @@ module _ (job : Job) (node : ℕ) where
           regroup false other third = refl
 
     -- what it nets_read is due
-    pub reads_due : (place default : ℕ) → place < length (nets_read planned entry) → slot state (get_or (nets_read planned entry) place default) ≡ value_at job state.clock (get_or (nets_read planned entry) place default)
+    pub reads_due : (place default : ℕ) → place < length (nets_read planned entry)
+        → slot state (get_or (nets_read planned entry) place default) ≡ value_at job state.clock (get_or (nets_read planned entry) place default)
     reads_due place default within = holds.due unfinished (get_or (nets_read planned entry) place default) (finds_reads planned job.checked.sound node state.made entry at place default within)
 
     -- a send changes nothing
@@ -73,7 +74,8 @@ module _ (job : Job) (node : ℕ) where
           ⊎_elim (λ before. before) (λ given. absurd (true≢false (sym (and_parts (not (is_sending entry)) (eqb entry.net net) given).0 ∙ ap not sends))) (or_cases (is_due planned node (take state.made own) net) (settles_net net entry) both)
 
     -- a slot gets the value of its net
-    pub written_holds : (net : ℕ) (bit : Bool) → entry.net ≡ net → bit ≡ value_at job state.clock net → net < length state.slots → HoldsValues job node (written state net bit)
+    pub written_holds : (net : ℕ) (bit : Bool) → entry.net ≡ net → bit ≡ value_at job state.clock net → net < length state.slots
+        → HoldsValues job node (written state net bit)
     written_holds net bit same right inside = record {
       within = holds.within;
       under = omega (arith, below);
@@ -83,25 +85,30 @@ module _ (job : Job) (node : ℕ) where
       latched = λ other past is. both other (λ apart. holds.latched other past is);
       told = holds.told;
     } where
-      both : (other : ℕ) → ((net ≡ other → ⊥) → slot state other ≡ value_at job state.clock other) → slot (written state net bit) other ≡ value_at job state.clock other
+      both : (other : ℕ) → ((net ≡ other → ⊥) → slot state other ≡ value_at job state.clock other)
+          → slot (written state net bit) other ≡ value_at job state.clock other
       both other kept =
           let if_same = λ (is : net ≡ other). ap (λ (one : ℕ). get_or (set state.slots net bit) one false) (sym is) ∙ get_or-set_same state.slots net bit false inside ∙ right ∙ ap (value_at job state.clock) is in
           let if_other = λ (apart : net ≡ other → ⊥). get_or-set_other state.slots net other bit false (λ is. apart (sym is)) ∙ kept apart in
           ⊎_elim if_same if_other (cases_eq net other)
 
-      still : (other : ℕ) → is_due planned node (take (state.made + 1) own) other ≡ true → (net ≡ other → ⊥) → is_due planned node (take state.made own) other ≡ true
+      still : (other : ℕ) → is_due planned node (take (state.made + 1) own) other ≡ true → (net ≡ other → ⊥)
+          → is_due planned node (take state.made own) other ≡ true
       still other is apart =
           ⊎_elim (λ before. before) (λ given. absurd (apart (sym same ∙ eqb-true entry.net other (and_parts (not (is_sending entry)) (eqb entry.net other) given).1))) (or_cases (is_due planned node (take state.made own) other) (settles_net other entry) (sym (due_more other) ∙ is))
 
     -- the bit that a gate gets
-    pub gate_right : (gate : ℕ) → is_evaluating entry ≡ true → entry.net ≡ flat.inputs + gate → (ins : List ℕ) (cover : Cover) → slice_get flat.cells gate ≡ Some (Gate ins cover) → gate_bit (slot state) (slice_get flat.cells gate) ≡ value_at job state.clock (flat.inputs + gate)
+    pub gate_right : (gate : ℕ) → is_evaluating entry ≡ true → entry.net ≡ flat.inputs + gate → (ins : List ℕ) (cover : Cover)
+        → slice_get flat.cells gate ≡ Some (Gate ins cover)
+        → gate_bit (slot state) (slice_get flat.cells gate) ≡ value_at job state.clock (flat.inputs + gate)
     gate_right gate turn its ins cover is =
         let nets : nets_read planned entry ≡ ins =
         ap (λ (first : Bool). if first then gate_inputs (driving_cell flat entry.net) else (if is_sending entry then entry.net ∷ [] else [])) turn
         ∙ ap (λ (net : ℕ). gate_inputs (driving_cell flat net)) its ∙ driven gate ins cover is in
         let agree : All (λ net. slot state net ≡ value_at job state.clock net) ins = subst (All (λ (net : ℕ). slot state net ≡ value_at job state.clock net)) nets reads_due in
         ap (gate_bit (slot state)) is ∙ ap (cover_value cover) (map_agree (slot state) (value_at job state.clock) ins agree) ∙ sym (value-gate job state.clock gate ins cover is) where
-          driven : (gate : ℕ) (ins : List ℕ) (cover : Cover) → slice_get flat.cells gate ≡ Some (Gate ins cover) → gate_inputs (driving_cell flat (flat.inputs + gate)) ≡ ins
+          driven : (gate : ℕ) (ins : List ℕ) (cover : Cover) → slice_get flat.cells gate ≡ Some (Gate ins cover)
+              → gate_inputs (driving_cell flat (flat.inputs + gate)) ≡ ins
           driven gate ins cover is =
               let no : nat_lt (flat.inputs + gate) flat.inputs ≡ false = le-ltb (flat.inputs + gate) flat.inputs (omega arith) in
               let back : flat.inputs + gate - flat.inputs ≡ gate = omega arith in
@@ -116,7 +123,8 @@ module _ (job : Job) (node : ℕ) where
 
   pub latch_within : (net d : ℕ) (init : Init) → driving_cell flat net ≡ Some (Latch d init) → net < flat.inputs + length flat.cells
   latch_within net d init is = by (nat_lt net flat.inputs) refl is where
-    by : (input : Bool) → nat_lt net flat.inputs ≡ input → (if input then None else slice_get flat.cells (net - flat.inputs)) ≡ Some (Latch d init) → net < flat.inputs + length flat.cells
+    by : (input : Bool) → nat_lt net flat.inputs ≡ input
+        → (if input then None else slice_get flat.cells (net - flat.inputs)) ≡ Some (Latch d init) → net < flat.inputs + length flat.cells
     by true test at = cc
     by false test at = omega (arith, slice_get_within flat.cells (net - flat.inputs) (Latch d init) at, ltb-false net flat.inputs test)
 
@@ -131,7 +139,8 @@ module _ (job : Job) (node : ℕ) where
     stepped_slot : (net : ℕ) → net < flat.inputs + length flat.cells → slot (stepped job node state) net ≡ stepped_bit job node state net
     stepped_slot net within = get_or-tabulate (stepped_bit job node state) (length state.slots) net false (omega (arith, within, holds.size))
 
-    latch_slot : (net : ℕ) → eqb (home planned net) node ≡ true → is_latch (driving_cell flat net) ≡ true → slot (stepped job node state) net ≡ value_at job (state.clock + 1) net
+    latch_slot : (net : ℕ) → eqb (home planned net) node ≡ true → is_latch (driving_cell flat net) ≡ true
+        → slot (stepped job node state) net ≡ value_at job (state.clock + 1) net
     latch_slot net here latch =
         let cell = latch_is (driving_cell flat net) latch in
         let is : driving_cell flat net ≡ Some (Latch cell.0 cell.1.0) = cell.1.1 in
@@ -146,7 +155,8 @@ module _ (job : Job) (node : ℕ) where
           by net d init true at = cc
           by net d init false at = ap (latch_bit (slot state) (slot state net)) at
 
-    input_slot : (net : ℕ) → state.clock + 1 < length job.rows → eqb (home planned net) node ≡ true → nat_lt net flat.inputs ≡ true → slot (stepped job node state) net ≡ value_at job (state.clock + 1) net
+    input_slot : (net : ℕ) → state.clock + 1 < length job.rows → eqb (home planned net) node ≡ true → nat_lt net flat.inputs ≡ true
+        → slot (stepped job node state) net ≡ value_at job (state.clock + 1) net
     input_slot net left here input =
         let within : net < flat.inputs + length flat.cells = omega (arith, ltb-true net flat.inputs input) in
         let row : slice_get job.rows (state.clock + 1) ≡ Some (get_or job.rows (state.clock + 1) []) = slice_get-get_or job.rows (state.clock + 1) [] left in
@@ -156,7 +166,8 @@ module _ (job : Job) (node : ℕ) where
         ∙ ap (λ (next : Option (List Bool)). input_bit next net (slot state net)) row
         ∙ sym (value-input job (state.clock + 1) net input)
 
-    source_slot : (net : ℕ) → state.clock + 1 < length job.rows → is_source planned node net ≡ true → slot (stepped job node state) net ≡ value_at job (state.clock + 1) net
+    source_slot : (net : ℕ) → state.clock + 1 < length job.rows → is_source planned node net ≡ true
+        → slot (stepped job node state) net ≡ value_at job (state.clock + 1) net
     source_slot net left is =
         let parts = and_parts (eqb (home planned net) node) (nat_lt net flat.inputs || is_latch (driving_cell flat net)) is in
         ⊎_elim (λ input. input_slot net left parts.0 input) (λ latch. latch_slot net parts.0 latch) (or_cases (nat_lt net flat.inputs) (is_latch (driving_cell flat net)) parts.1)

@@ -24,7 +24,8 @@ use Rattle.vw_node.specs.States.{NodeState, next_action}
 use Rattle.vw_node.proofs.EntryKinds.{next_entry}
 
 -- the ends are still those of the same job
-pub job_stays : (job : Job) (node : ℕ) (old new : NodeState) (before after : SeenEnds) (answer : Step) → Steps job node old new before after answer → after.job ≡ before.job
+pub job_stays : (job : Job) (node : ℕ) (old new : NodeState) (before after : SeenEnds) (answer : Step)
+    → Steps job node old new before after answer → after.job ≡ before.job
 job_stays job node old new before after Moved (next, is, made) = by next made where
   by : (one : Action) → Makes job node old new before after one → after.job ≡ before.job
   by (action.Evaluate gate) does = ap (λ (ends : SeenEnds). ends.job) does.1
@@ -48,9 +49,12 @@ module _ (job : Job) (node : ℕ) (old : NodeState) where
   many_are = omega (arith, length-append (map (action_of job.checked.ordered.flat.inputs) own) (action.Step ∷ []), length-map own (action_of job.checked.ordered.flat.inputs))
 
   -- a clock that isn't over has an action to come
-  next_there : (next : Action) → next_action job node old ≡ Some next → (old.clock < length job.rows) × (slice_get (actions (planned_of job) node) old.made ≡ Some next)
+  next_there : (next : Action) → next_action job node old ≡ Some next
+      → (old.clock < length job.rows) × (slice_get (actions (planned_of job) node) old.made ≡ Some next)
   next_there next is = by (nat_lt old.clock (length job.rows)) refl is where
-    by : (more : Bool) → nat_lt old.clock (length job.rows) ≡ more → (if more then slice_get (actions (planned_of job) node) old.made else None) ≡ Some next → (old.clock < length job.rows) × (slice_get (actions (planned_of job) node) old.made ≡ Some next)
+    by : (more : Bool) → nat_lt old.clock (length job.rows) ≡ more
+        → (if more then slice_get (actions (planned_of job) node) old.made else None) ≡ Some next
+        → (old.clock < length job.rows) × (slice_get (actions (planned_of job) node) old.made ≡ Some next)
     by true at there = (ltb-true old.clock (length job.rows) at, there)
     by false at there = cc
 
@@ -61,7 +65,8 @@ module _ (job : Job) (node : ℕ) (old : NodeState) where
   last_less clocks count made last = let opened : suc clocks * count ≡ count + clocks * count = grind arith in omega (arith, opened, last)
 
   -- an action that was made is one less to come
-  pub less_left : (new : NodeState) (before after : SeenEnds) → Steps job node old new before after Moved → HoldsValues job node old → suc (left job node new) ≡ left job node old
+  pub less_left : (new : NodeState) (before after : SeenEnds) → Steps job node old new before after Moved → HoldsValues job node old
+      → suc (left job node new) ≡ left job node old
   less_left new before after (next, is, made) holds =
       let there = next_there next is in
       let within : old.made < many = slice_get_within (actions (planned_of job) node) old.made next there.1 in
@@ -76,7 +81,9 @@ module _ (job : Job) (node : ℕ) (old : NodeState) where
       ∙ last_less (length job.rows - (old.clock + 1)) many old.made last
       ∙ ap (λ (some : ℕ). some * many - old.made) (sym clocks) in
       by next there.1 made stays ends where
-        no_step : (gate net link pin : ℕ) (first second : Bool) → action.Step ≡ (if first then action.Evaluate gate else (if second then action.Send link pin net else action.Take link pin net)) → ⊥
+        no_step : (gate net link pin : ℕ) (first second : Bool)
+            → action.Step ≡ (if first then action.Evaluate gate else (if second then action.Send link pin net else action.Take link pin net))
+            → ⊥
         no_step gate net link pin true second same = cc
         no_step gate net link pin false true same = cc
         no_step gate net link pin false false same = cc
@@ -95,21 +102,26 @@ module _ (job : Job) (node : ℕ) (old : NodeState) where
 -- ---- many actions
 
 -- an action before others
-pub goes_before : (job : Job) (node : ℕ) (first second last : NodeState) (before between after : SeenEnds) (count : ℕ) → Steps job node first second before between Moved → MakesActions job node second last between after count → MakesActions job node first last before after (suc count)
+pub goes_before : (job : Job) (node : ℕ) (first second last : NodeState) (before between after : SeenEnds) (count : ℕ)
+    → Steps job node first second before between Moved → MakesActions job node second last between after count
+    → MakesActions job node first last before after (suc count)
 goes_before job node first second last before between after zero step (same, stay) =
     (first, before, (refl, refl), subst (λ (state : NodeState). Steps job node first state before after Moved) (sym same) (subst (λ (ends : SeenEnds). Steps job node first second before ends Moved) (sym stay) step))
 goes_before job node first second last before between after (suc count) step (state, ends, rest, final) =
     (state, ends, goes_before job node first second state before between ends count step rest, final)
 
 -- actions behind others
-pub goes_further : (job : Job) (node : ℕ) (first second last : NodeState) (before between after : SeenEnds) (made count : ℕ) → MakesActions job node first second before between made → MakesActions job node second last between after count → (all : ℕ) × MakesActions job node first last before after all
+pub goes_further : (job : Job) (node : ℕ) (first second last : NodeState) (before between after : SeenEnds) (made count : ℕ)
+    → MakesActions job node first second before between made → MakesActions job node second last between after count
+    → (all : ℕ) × MakesActions job node first last before after all
 goes_further job node first second last before between after made zero start (same, stay) =
     (made, subst (λ (state : NodeState). MakesActions job node first state before after made) (sym same) (subst (λ (ends : SeenEnds). MakesActions job node first second before ends made) (sym stay) start))
 goes_further job node first second last before between after made (suc count) start (state, ends, rest, final) =
     let so_far = goes_further job node first second state before between ends made count start rest in
     (suc so_far.0, (state, ends, so_far.1, final))
 
-pub goes_stays : (job : Job) (node : ℕ) (first last : NodeState) (before after : SeenEnds) (count : ℕ) → MakesActions job node first last before after count → after.job ≡ before.job
+pub goes_stays : (job : Job) (node : ℕ) (first last : NodeState) (before after : SeenEnds) (count : ℕ)
+    → MakesActions job node first last before after count → after.job ≡ before.job
 goes_stays job node first last before after zero (same, stay) = ap (λ (ends : SeenEnds). ends.job) stay
 goes_stays job node first last before after (suc count) (state, ends, rest, final) = job_stays job node state last ends after Moved final ∙ goes_stays job node first state before ends count rest
 
@@ -133,7 +145,8 @@ module _ (job : Job) (node : ℕ) (old new : NodeState) (before after : SeenEnds
   }
 
   -- and some of them, of which there may be one alone
-  pub makes_many : (count : ℕ) → 0 < count → (whole ≡ false → count ≡ 1) → MakesActions job node old new before after count → left job node new + count ≡ left job node old → MakesSome job node old new before after whole Moved
+  pub makes_many : (count : ℕ) → 0 < count → (whole ≡ false → count ≡ 1) → MakesActions job node old new before after count
+      → left job node new + count ≡ left job node old → MakesSome job node old new before after whole Moved
   makes_many zero some single goes less = absurd (omega (arith, some))
   makes_many (suc count) some single goes less = record {
     one = λ is. only (subst (MakesActions job node old new before after) (single is) goes);
@@ -163,7 +176,9 @@ abbrev pub tries_left : Job → ℕ → NodeState → Step → ℕ
 tries_left job node state answer = if is_moved answer then suc (left job node state) else 0
 
 module _ (start : Node) (before : SeenEnds) where
-  pub first_try : (now : Node) (ends : SeenEnds) (answer : Step) → FitsJob ends.job now → Agrees ends.job now.share.node (state_of now) ends → now.share ≡ start.share → MakesSome before.job start.share.node (state_of start) (state_of now) before ends true answer → IsUnderway start before now ends answer
+  pub first_try : (now : Node) (ends : SeenEnds) (answer : Step) → FitsJob ends.job now → Agrees ends.job now.share.node (state_of now) ends
+      → now.share ≡ start.share → MakesSome before.job start.share.node (state_of start) (state_of now) before ends true answer
+      → IsUnderway start before now ends answer
   first_try now ends answer fit agree share makes =
       let job : ends.job ≡ before.job = makes_stays before.job start.share.node (state_of start) (state_of now) before ends true answer makes in
       record {

@@ -87,10 +87,12 @@ module _ (ends : SeenEnds) (node : ℕ) (state : NodeState) (agrees : Agrees end
       its = entry_has planned job.checked.sound node state.made entry at
 
       -- what isn't counted_at stays
-      no_sent : (number : ℕ) → is_sending entry ≡ false → count_by (is_sent number) (take (state.made + 1) own) ≡ count_by (is_sent number) (take state.made own)
+      no_sent : (number : ℕ) → is_sending entry ≡ false
+          → count_by (is_sent number) (take (state.made + 1) own) ≡ count_by (is_sent number) (take state.made own)
       no_sent number apart = omega (arith, count_more (is_sent number) own state.made entry at, ap (λ (kind : Bool). one_if (kind && eqb entry.link number)) apart)
 
-      no_taken : (number : ℕ) → is_taking entry ≡ false → count_by (is_taken number) (take (state.made + 1) own) ≡ count_by (is_taken number) (take state.made own)
+      no_taken : (number : ℕ) → is_taking entry ≡ false
+          → count_by (is_taken number) (take (state.made + 1) own) ≡ count_by (is_taken number) (take state.made own)
       no_taken number apart = omega (arith, count_more (is_taken number) own state.made entry at, ap (λ (kind : Bool). one_if (kind && eqb entry.link number)) apart)
 
       -- ---- a gate
@@ -140,7 +142,8 @@ module _ (ends : SeenEnds) (node : ℕ) (state : NodeState) (agrees : Agrees end
         own_node : there.0.from ≡ node
         own_node = there.1.1 ∙ own_at state.made entry at
 
-        pub sent_next : (word : Word) → word.clock ≡ job.first + state.clock → word.net ≡ net → word.pin ≡ pin → word.bit ≡ slot state net → IsNextWord ends link word
+        pub sent_next : (word : Word) → word.clock ≡ job.first + state.clock → word.net ≡ net → word.pin ≡ pin → word.bit ≡ slot state net
+            → IsNextWord ends link word
         sent_next word clock one two bit =
             let same : word_at job state.clock entry ≡ word = λ i. record {
               clock = sym clock i;

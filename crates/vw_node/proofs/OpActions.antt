@@ -44,7 +44,8 @@ use Rattle.vw_node.proofs.SlotBits.{bits_are, known_written, slot_within, slots_
 use Rattle.vw_node.proofs.Values.{get_or-tabulate}
 
 -- a range of a list, from its first element on
-range_more : {X : Type 0} (xs : List X) (first stop : ℕ) (x : X) → slice_get xs first ≡ Some x → first < stop → slice_range xs first stop ≡ x ∷ slice_range xs (first + 1) stop
+range_more : {X : Type 0} (xs : List X) (first stop : ℕ) (x : X) → slice_get xs first ≡ Some x → first < stop
+    → slice_range xs first stop ≡ x ∷ slice_range xs (first + 1) stop
 range_more xs first stop x is some =
     let left : stop - first ≡ suc (stop - (first + 1)) = omega (arith, some) in
     let opened : drop first xs ≡ x ∷ drop (first + 1) xs = drop_more xs first x (slice_get_within xs first x is) ∙ ap (λ (one : _). one ∷ drop (first + 1) xs) (get_or_from_slice_get xs first x x is) in
@@ -73,7 +74,8 @@ module _ (ends : SeenEnds) (node : ℕ) (code : Code) (is_code : IsCode (planned
   all_nets = flat.inputs + length flat.cells
 
   -- the action of an op
-  pub op_begins : (place : ℕ) (one : Op) → slice_get code.ops.items place ≡ Some one → (next : Action) × ((slice_get program place ≡ Some next) × BeginsWithAction flat code next one)
+  pub op_begins : (place : ℕ) (one : Op) → slice_get code.ops.items place ≡ Some one
+      → (next : Action) × ((slice_get program place ≡ Some next) × BeginsWithAction flat code next one)
   op_begins place one is =
       let within : place < length program = omega (arith, slice_get_within code.ops.items place one is, is_code.count) in
       let next = get_or program place action.Step in
@@ -88,16 +90,20 @@ module _ (ends : SeenEnds) (node : ℕ) (code : Code) (is_code : IsCode (planned
   RunsOn made slot [] = made ≡ made
   RunsOn made slot (gate ∷ gates) = (number : ℕ) × (slice_get program made ≡ Some (action.Evaluate number)) × IsTableGate flat nets number gate slot × RunsOn (made + 1) (slot + 1) gates
 
-  pub run_begins : (place first end slot : ℕ) → slice_get code.ops.items place ≡ Some (op.Run first end slot) → (number : ℕ) × (slice_get program place ≡ Some (action.Evaluate number)) × BeginsWithAction flat code (action.Evaluate number) (op.Run first end slot)
+  pub run_begins : (place first end slot : ℕ) → slice_get code.ops.items place ≡ Some (op.Run first end slot)
+      → (number : ℕ) × (slice_get program place ≡ Some (action.Evaluate number)) × BeginsWithAction flat code (action.Evaluate number) (op.Run first end slot)
   run_begins place first end slot is = let found = op_begins place (op.Run first end slot) is in by found.0 found.1.0 found.1.1 where
-    by : (next : Action) → slice_get program place ≡ Some next → BeginsWithAction flat code next (op.Run first end slot) → (number : ℕ) × (slice_get program place ≡ Some (action.Evaluate number)) × BeginsWithAction flat code (action.Evaluate number) (op.Run first end slot)
+    by : (next : Action) → slice_get program place ≡ Some next → BeginsWithAction flat code next (op.Run first end slot)
+        → (number : ℕ) × (slice_get program place ≡ Some (action.Evaluate number)) × BeginsWithAction flat code (action.Evaluate number) (op.Run first end slot)
     by (action.Evaluate number) at begins = (number, at, begins)
     by (action.Send link pin net) at begins = absurd begins
     by (action.Take link pin net) at begins = absurd begins
     by action.Step at begins = absurd begins
 
   -- the gates of a part of a run
-  pub run_of : (count place first stop end slot : ℕ) → stop ≡ first + suc count → stop ≤ end → slice_get code.ops.items place ≡ Some (op.Run first end slot) → RunsOn place slot (slice_range (seen_gates code.gates) first stop) × (stop ≤ length (seen_gates code.gates))
+  pub run_of : (count place first stop end slot : ℕ) → stop ≡ first + suc count → stop ≤ end
+      → slice_get code.ops.items place ≡ Some (op.Run first end slot)
+      → RunsOn place slot (slice_range (seen_gates code.gates) first stop) × (stop ≤ length (seen_gates code.gates))
   run_of zero place first stop end slot is within at =
       let found = run_begins place first end slot at in
       let gate = found.2.1 in
@@ -122,7 +128,8 @@ module _ (ends : SeenEnds) (node : ℕ) (code : Code) (is_code : IsCode (planned
   runs_within made slot (gate ∷ gates) (number, at, is, rest) = (is.within, runs_within (made + 1) (slot + 1) gates rest)
 
   -- none of them turns a loop
-  pub runs_stand : (made slot : ℕ) (gates : List SeenGate) (places : List ℕ) → RunsOn made slot gates → Stand program code.loops.items made places → Stand program code.loops.items (made + length gates) places
+  pub runs_stand : (made slot : ℕ) (gates : List SeenGate) (places : List ℕ) → RunsOn made slot gates
+      → Stand program code.loops.items made places → Stand program code.loops.items (made + length gates) places
   runs_stand made slot [] places runs stand = let none : made ≡ made + 0 = omega arith in subst (λ (count : ℕ). Stand program code.loops.items count places) none stand
   runs_stand made slot (gate ∷ gates) places (number, at, is, rest) stand =
       let all : made + 1 + length gates ≡ made + suc (length gates) = omega arith in
@@ -136,7 +143,8 @@ module _ (ends : SeenEnds) (node : ℕ) (code : Code) (is_code : IsCode (planned
   runs_room made slot (gate ∷ second ∷ gates) (number, at, is, rest) some = omega (arith, runs_room (made + 1) (slot + 1) (second ∷ gates) rest (omega arith))
 
   -- what a gate reads are nets
-  ins_within : (number : ℕ) (ins : List ℕ) (cover : Cover) → slice_get flat.cells number ≡ Some (Gate ins cover) → (length ins ≡ cover.inputs) × All (λ net. net < all_nets) ins
+  ins_within : (number : ℕ) (ins : List ℕ) (cover : Cover) → slice_get flat.cells number ≡ Some (Gate ins cover)
+      → (length ins ≡ cover.inputs) × All (λ net. net < all_nets) ins
   ins_within number ins cover is = cell_fits all_nets flat.cells number (Gate ins cover) flat.cells_fit is
 
   pub length-with_gates : (slot : ℕ) (gates : List SeenGate) (bits : List Bool) → length (with_gates slot gates bits) ≡ length bits
@@ -147,7 +155,8 @@ module _ (ends : SeenEnds) (node : ℕ) (code : Code) (is_code : IsCode (planned
 
   module _ (number : ℕ) (bits : List Bool) where
     -- a gate by its truth table has the value of its cover
-    pub table_bit : (gate : SeenGate) (slot : ℕ) → IsTableGate flat nets number gate slot → bit_of gate.truth_table (place_of (map (bit_at_slot bits) gate.reads)) ≡ gate_bit (bit_by nets bits) (slice_get flat.cells number)
+    pub table_bit : (gate : SeenGate) (slot : ℕ) → IsTableGate flat nets number gate slot
+        → bit_of gate.truth_table (place_of (map (bit_at_slot bits) gate.reads)) ≡ gate_bit (bit_by nets bits) (slice_get flat.cells number)
     table_bit gate slot is =
         let fits = ins_within number is.ins is.cover is.cell in
         let own_bits : map (bit_at_slot bits) is.own ≡ map (bit_by nets bits) is.ins = bits_are nets bits is.ins is.own is.slots in
@@ -168,7 +177,8 @@ module _ (ends : SeenEnds) (node : ℕ) (code : Code) (is_code : IsCode (planned
         let long : length gate.reads ≡ is.cover.inputs = sym (slots_long nets is.ins gate.reads is.slots) ∙ (ins_within number is.ins is.cover is.cell).0 in
         subst (λ (one : Option Cell). HasArity one gate.reads) (sym cell) long
 
-    pub wide_is : (gate : WideGate) → IsWideGate flat nets number gate → wide_by (slice_get flat.cells gate.number) bits gate.reads ≡ gate_bit (bit_by nets bits) (slice_get flat.cells number)
+    pub wide_is : (gate : WideGate) → IsWideGate flat nets number gate
+        → wide_by (slice_get flat.cells gate.number) bits gate.reads ≡ gate_bit (bit_by nets bits) (slice_get flat.cells number)
     wide_is gate is =
         let cell : slice_get flat.cells gate.number ≡ Some (Gate is.ins is.cover) = ap (slice_get flat.cells) is.same ∙ is.cell in
         ap (λ (one : Option Cell). wide_by one bits gate.reads) cell
@@ -183,7 +193,8 @@ module _ (ends : SeenEnds) (node : ℕ) (code : Code) (is_code : IsCode (planned
     known made bits = record { clock = clock; made = made; slots = tabulate (bit_by nets bits) many; rows = rows }
 
     -- the bits of the slots are those that the list of all nets has
-    slots_agree : (bits : List Bool) (made number : ℕ) (cell : Option Cell) → slice_get flat.cells number ≡ cell → gate_bit (bit_by nets bits) cell ≡ gate_bit (slot (known made bits)) cell
+    slots_agree : (bits : List Bool) (made number : ℕ) (cell : Option Cell) → slice_get flat.cells number ≡ cell
+        → gate_bit (bit_by nets bits) cell ≡ gate_bit (slot (known made bits)) cell
     slots_agree bits made number None at = refl
     slots_agree bits made number (Some (Latch d init)) at = refl
     slots_agree bits made number (Some (Gate ins cover)) at =
@@ -225,7 +236,8 @@ module _ (ends : SeenEnds) (node : ℕ) (code : Code) (is_code : IsCode (planned
         × MakesActions job node (known made bits) (known last (with_gates place gates bits)) ends ends (length gates)
         × (left job node (known last (with_gates place gates bits)) + length gates ≡ left job node (known made bits))
 
-    pub gates_go : (gates : List SeenGate) (place made last : ℕ) (bits : List Bool) → last ≡ made + length gates → length bits ≡ length nets → RunsOn made place gates → Agrees job node (known made bits) ends → HasGone place gates made last bits
+    pub gates_go : (gates : List SeenGate) (place made last : ℕ) (bits : List Bool) → last ≡ made + length gates → length bits ≡ length nets
+        → RunsOn made place gates → Agrees job node (known made bits) ends → HasGone place gates made last bits
     gates_go [] place made last bits is size runs agree =
         let same : made ≡ last = omega (arith, is) in
         (subst (λ (at : ℕ). Agrees job node (known at bits) ends) same agree, (ap (λ (at : ℕ). known at bits) (sym same), refl), omega (arith, ap (λ (at : ℕ). left job node (known at bits)) same))

@@ -17,12 +17,14 @@ use Rattle.vw_node.proofs.Values.{get_or-tabulate, length-tabulate}
 pub slot_is : (nets : List ℕ) (net slot : ℕ) → net_slot nets net ≡ Some slot → slice_get nets slot ≡ Some net
 slot_is [] net slot is = cc
 slot_is (first ∷ nets) net slot is = by (eqb first net) slot refl is (λ place there. slot_is nets net place there) where
-  inside : (found : Option ℕ) (slot : ℕ) → net_slot nets net ≡ found → option_map suc found ≡ Some slot → ((place : ℕ) → net_slot nets net ≡ Some place → slice_get nets place ≡ Some net) → slice_get (first ∷ nets) slot ≡ Some net
+  inside : (found : Option ℕ) (slot : ℕ) → net_slot nets net ≡ found → option_map suc found ≡ Some slot
+      → ((place : ℕ) → net_slot nets net ≡ Some place → slice_get nets place ≡ Some net) → slice_get (first ∷ nets) slot ≡ Some net
   inside None slot there at rest = cc
   inside (Some place) zero there at rest = cc
   inside (Some place) (suc slot) there at rest = let same : place ≡ slot = cc in rest slot (there ∙ ap Some same)
 
-  by : (same : Bool) (slot : ℕ) → eqb first net ≡ same → (if same then Some 0 else option_map suc (net_slot nets net)) ≡ Some slot → ((place : ℕ) → net_slot nets net ≡ Some place → slice_get nets place ≡ Some net) → slice_get (first ∷ nets) slot ≡ Some net
+  by : (same : Bool) (slot : ℕ) → eqb first net ≡ same → (if same then Some 0 else option_map suc (net_slot nets net)) ≡ Some slot
+      → ((place : ℕ) → net_slot nets net ≡ Some place → slice_get nets place ≡ Some net) → slice_get (first ∷ nets) slot ≡ Some net
   by true zero test at rest = ap Some (eqb-true first net test)
   by true (suc slot) test at rest = cc
   by false slot test at rest = inside (net_slot nets net) slot refl at rest
@@ -50,7 +52,8 @@ slots_within nets some slots are = All-from_recursion (λ (slot : ℕ). slot < l
   by (net ∷ some) (slot ∷ slots) are = let first : net_slot nets net ≡ Some slot = cc in let rest : map (net_slot nets) some ≡ map Some slots = cc in (slot_within nets net slot first, by some slots rest)
 
 -- the bits in them are those of the nets
-pub bits_are : (nets : List ℕ) (bits : List Bool) (some slots : List ℕ) → map (net_slot nets) some ≡ map Some slots → map (bit_at_slot bits) slots ≡ map (bit_by nets bits) some
+pub bits_are : (nets : List ℕ) (bits : List Bool) (some slots : List ℕ) → map (net_slot nets) some ≡ map Some slots
+    → map (bit_at_slot bits) slots ≡ map (bit_by nets bits) some
 bits_are nets bits [] [] are = refl
 bits_are nets bits [] (slot ∷ slots) are = cc
 bits_are nets bits (net ∷ some) [] are = cc
@@ -61,7 +64,8 @@ bits_are nets bits (net ∷ some) (slot ∷ slots) are =
 
 -- ---- a bit that is written
 
-pub bit_written : (nets : List ℕ) (bits : List Bool) (net slot : ℕ) (bit : Bool) → net_slot nets net ≡ Some slot → slot < length bits → (other : ℕ) → bit_by nets (set bits slot bit) other ≡ (if eqb other net then bit else bit_by nets bits other)
+pub bit_written : (nets : List ℕ) (bits : List Bool) (net slot : ℕ) (bit : Bool) → net_slot nets net ≡ Some slot → slot < length bits
+    → (other : ℕ) → bit_by nets (set bits slot bit) other ≡ (if eqb other net then bit else bit_by nets bits other)
 bit_written nets bits net slot bit is inside other =
     let if_same = λ (same : other ≡ net).
     ap (λ (one : ℕ). bit_by nets (set bits slot bit) one) same ∙ ap (slot_bit (set bits slot bit)) is ∙ get_or-set_same bits slot bit false inside
@@ -80,7 +84,8 @@ known_written nets bits net slot bit many is inside within =
     let before = tabulate (bit_by nets bits) many in
     let after = tabulate (bit_by nets (set bits slot bit)) many in
     ext_get_or false after (set before net bit) (length-tabulate (bit_by nets (set bits slot bit)) many ∙ sym (length-set before net bit ∙ length-tabulate (bit_by nets bits) many)) each where
-      each : (other : ℕ) → other < length (tabulate (bit_by nets (set bits slot bit)) many) → get_or (tabulate (bit_by nets (set bits slot bit)) many) other false ≡ get_or (set (tabulate (bit_by nets bits) many) net bit) other false
+      each : (other : ℕ) → other < length (tabulate (bit_by nets (set bits slot bit)) many)
+          → get_or (tabulate (bit_by nets (set bits slot bit)) many) other false ≡ get_or (set (tabulate (bit_by nets bits) many) net bit) other false
       each other below =
           let before = tabulate (bit_by nets bits) many in
           let under : other < many = omega (arith, below, length-tabulate (bit_by nets (set bits slot bit)) many) in
@@ -100,7 +105,8 @@ is_one [] net = false
 is_one (first ∷ some) net = if eqb net first then true else is_one some net
 
 -- bits that are a function of their nets
-pub many_written : (nets : List ℕ) (value : ℕ → Bool) (some slots : List ℕ) (bits : List Bool) → map (net_slot nets) some ≡ map Some slots → length bits ≡ length nets → (net : ℕ)
+pub many_written : (nets : List ℕ) (value : ℕ → Bool) (some slots : List ℕ) (bits : List Bool) → map (net_slot nets) some ≡ map Some slots
+    → length bits ≡ length nets → (net : ℕ)
     → bit_by nets (with_bits slots (map value some) bits) net ≡ (if is_one some net then value net else bit_by nets bits net)
 many_written nets value [] [] bits are long net = refl
 many_written nets value [] (slot ∷ slots) bits are long net = cc

@@ -27,7 +27,8 @@ use Rattle.vw_node.proofs.Held.{latch_is, latch_within}
 use Rattle.vw_node.proofs.SlotBits.{is_one, many_written, none_at, slot_apart, slot_within}
 
 -- a number of a range that passes a test is among those that do
-pub one_in_range : (test : ℕ → Bool) (count first net : ℕ) → first ≤ net → net < first + count → test net ≡ true → is_one (filter test (range_with_len first count)) net ≡ true
+pub one_in_range : (test : ℕ → Bool) (count first net : ℕ) → first ≤ net → net < first + count → test net ≡ true
+    → is_one (filter test (range_with_len first count)) net ≡ true
 one_in_range test zero first net from to passes = absurd (omega (arith, from, to))
 one_in_range test (suc count) first net from to passes =
     let more = filter test (range_with_len (first + 1) count) in
@@ -41,17 +42,21 @@ one_in_range test (suc count) first net from to passes =
       eq_test : (one other : ℕ) → one ≡ other → eqb one other ≡ true
       eq_test one other same = eq-eqb one other same
 
-      by : (keep : Bool) → is_one (filter test (range_with_len (first + 1) count)) net ≡ true → is_one (cond keep (first ∷ filter test (range_with_len (first + 1) count)) (filter test (range_with_len (first + 1) count))) net ≡ true
+      by : (keep : Bool) → is_one (filter test (range_with_len (first + 1) count)) net ≡ true
+          → is_one (cond keep (first ∷ filter test (range_with_len (first + 1) count)) (filter test (range_with_len (first + 1) count))) net ≡ true
       by false there = there
       by true there = inner (eqb net first) there where
-        inner : (same : Bool) → is_one (filter test (range_with_len (first + 1) count)) net ≡ true → (if same then true else is_one (filter test (range_with_len (first + 1) count)) net) ≡ true
+        inner : (same : Bool) → is_one (filter test (range_with_len (first + 1) count)) net ≡ true
+            → (if same then true else is_one (filter test (range_with_len (first + 1) count)) net) ≡ true
         inner true there = refl
         inner false there = there
 
 -- the row of a clock is the host's alone
 pub row_is : (job : Job) (share : Share) → IsShare job share → (clock : ℕ) → row_at share clock ≡ (if eqb share.node 0 then slice_get job.rows clock else None)
 row_is job share is clock = by share.rows (eqb share.node 0) is.rows where
-  by : (rows_in : Option (Bor (List (List Bool)))) (host : Bool) → option_map (λ rows. rows.now) rows_in ≡ (if host then Some job.rows else None) → option_and_then (λ rows. slice_get rows.now clock) rows_in ≡ (if host then slice_get job.rows clock else None)
+  by : (rows_in : Option (Bor (List (List Bool)))) (host : Bool)
+      → option_map (λ rows. rows.now) rows_in ≡ (if host then Some job.rows else None)
+      → option_and_then (λ rows. slice_get rows.now clock) rows_in ≡ (if host then slice_get job.rows clock else None)
   by None true at = cc
   by None false at = refl
   by (Some own) true at = let same : own.now ≡ job.rows = cc in ap (λ (list : List (List Bool)). slice_get list clock) same
@@ -95,7 +100,8 @@ module _ (job : Job) (node : ℕ) (code : Code) (is_code : IsCode (planned_of jo
       let cell = latch_is job node (driving_cell flat net) parts.0 in
       let within = latch_within job node net cell.0 cell.1.0 cell.1.1 in
       one_in_range is_own (length flat.cells) flat.inputs net (no_input (nat_lt net flat.inputs) refl cell.0 cell.1.0 cell.1.1) within is where
-        no_input : (input : Bool) → nat_lt net flat.inputs ≡ input → (d : ℕ) (init : _) → (if input then None else slice_get flat.cells (net - flat.inputs)) ≡ Some (Latch d init) → flat.inputs ≤ net
+        no_input : (input : Bool) → nat_lt net flat.inputs ≡ input → (d : ℕ) (init : _)
+            → (if input then None else slice_get flat.cells (net - flat.inputs)) ≡ Some (Latch d init) → flat.inputs ≤ net
         no_input true test d init at = cc
         no_input false test d init at = ltb-false net flat.inputs test
 
@@ -120,7 +126,8 @@ module _ (job : Job) (node : ℕ) (code : Code) (is_code : IsCode (planned_of jo
 
   pub row_room : (clock : ℕ) (line : List Bool) → row clock ≡ Some line → (length line ≡ flat.inputs) × (flat.inputs ≤ length nets)
   row_room clock line is = by (eqb node 0) refl is where
-    by : (host : Bool) → eqb node 0 ≡ host → (if host then slice_get job.rows clock else None) ≡ Some line → (length line ≡ flat.inputs) × (flat.inputs ≤ length nets)
+    by : (host : Bool) → eqb node 0 ≡ host → (if host then slice_get job.rows clock else None) ≡ Some line
+        → (length line ≡ flat.inputs) × (flat.inputs ≤ length nets)
     by true test at = (row_long clock line at, host_room (eqb-true node 0 test))
     by false test at = cc
 
@@ -137,9 +144,11 @@ module _ (job : Job) (node : ℕ) (code : Code) (is_code : IsCode (planned_of jo
     abbrev before : ℕ → Bool
     before net = bit_by nets bits net
 
-    row_bit : (net : ℕ) → bit_by nets (with_row (row clock) bits) net ≡ (if eqb node 0 && nat_lt net flat.inputs then input_bit (slice_get job.rows clock) net (before net) else before net)
+    row_bit : (net : ℕ)
+        → bit_by nets (with_row (row clock) bits) net ≡ (if eqb node 0 && nat_lt net flat.inputs then input_bit (slice_get job.rows clock) net (before net) else before net)
     row_bit net = by (eqb node 0) refl where
-      found : (line : List Bool) (slot : Option ℕ) → length line ≡ flat.inputs → ((place : ℕ) → slot ≡ Some place → flat.inputs ≤ place) → slot_bit (line ++ drop (length line) bits) slot ≡ slot_bit bits slot
+      found : (line : List Bool) (slot : Option ℕ) → length line ≡ flat.inputs → ((place : ℕ) → slot ≡ Some place → flat.inputs ≤ place)
+          → slot_bit (line ++ drop (length line) bits) slot ≡ slot_bit bits slot
       found line None size past = refl
       found line (Some place) size past =
           let from : length line ≤ place = omega (arith, size, past place refl) in
@@ -147,7 +156,8 @@ module _ (job : Job) (node : ℕ) (code : Code) (is_code : IsCode (planned_of jo
           get_or-append_right line (drop (length line) bits) (length line) place false refl from
           ∙ get_or-drop (length line) bits (place - length line) false ∙ ap (λ (at : ℕ). get_or bits at false) back
 
-      inner : node ≡ 0 → (line : Option (List Bool)) (input : Bool) → slice_get job.rows clock ≡ line → nat_lt net flat.inputs ≡ input → bit_by nets (with_row line bits) net ≡ (if input then input_bit line net (before net) else before net)
+      inner : node ≡ 0 → (line : Option (List Bool)) (input : Bool) → slice_get job.rows clock ≡ line → nat_lt net flat.inputs ≡ input
+          → bit_by nets (with_row line bits) net ≡ (if input then input_bit line net (before net) else before net)
       inner host None true at test = refl
       inner host None false at test = refl
       inner host (Some line) true at test =
@@ -161,7 +171,8 @@ module _ (job : Job) (node : ℕ) (code : Code) (is_code : IsCode (planned_of jo
           ap (λ (all : List Bool). bit_by nets all net) (row_put line bits (omega (arith, long, row_long clock line at, host_room host)))
           ∙ found line (net_slot nets net) (row_long clock line at) past
 
-      by : (host : Bool) → eqb node 0 ≡ host → bit_by nets (with_row (if host then slice_get job.rows clock else None) bits) net ≡ (if host && nat_lt net flat.inputs then input_bit (slice_get job.rows clock) net (before net) else before net)
+      by : (host : Bool) → eqb node 0 ≡ host
+          → bit_by nets (with_row (if host then slice_get job.rows clock else None) bits) net ≡ (if host && nat_lt net flat.inputs then input_bit (slice_get job.rows clock) net (before net) else before net)
       by true test = inner (eqb-true node 0 test) (slice_get job.rows clock) (nat_lt net flat.inputs) refl refl
       by false test = refl
 
@@ -191,7 +202,8 @@ module _ (job : Job) (node : ℕ) (code : Code) (is_code : IsCode (planned_of jo
           let if_cell = λ (cell : nat_lt net flat.inputs ≡ false). and_no (eqb node 0) (nat_lt net flat.inputs) cell in
           ⊎_elim if_input if_cell (cases_Bool (nat_lt net flat.inputs))
 
-      no_latch : (cell : Option Cell) → driving_cell flat net ≡ cell → is_latch cell ≡ false → nat_lt net flat.inputs ≡ false → (if is_one own net then value net else rowed) ≡ before net
+      no_latch : (cell : Option Cell) → driving_cell flat net ≡ cell → is_latch cell ≡ false → nat_lt net flat.inputs ≡ false
+          → (if is_one own net then value net else rowed) ≡ before net
       no_latch cell is none test = no_one (ap (λ (one : Option Cell). is_latch one && eqb (home planned net) node) is ∙ ap (λ (latch : Bool). latch && eqb (home planned net) node) none) ∙ kept (and_no (eqb node 0) (nat_lt net flat.inputs) test)
 
       pub source_bit : bit_by nets (with_bits code.latches.items (map value own) (with_row (row clock) bits)) net

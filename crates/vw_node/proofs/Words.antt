@@ -35,7 +35,8 @@ get_map f (first ∷ xs) zero x is = let same : first ≡ x = cc in ap (λ one. 
 get_map f (first ∷ xs) (suc place) x is = get_map f xs place x is
 
 -- an element stands, among those that pass a test, behind those before it
-pub get_filter : {X : Type 0} (test : X → Bool) (xs : List X) (place : ℕ) (x : X) → slice_get xs place ≡ Some x → test x ≡ true → slice_get (filter test xs) (count_by test (take place xs)) ≡ Some x
+pub get_filter : {X : Type 0} (test : X → Bool) (xs : List X) (place : ℕ) (x : X) → slice_get xs place ≡ Some x → test x ≡ true
+    → slice_get (filter test xs) (count_by test (take place xs)) ≡ Some x
 get_filter test [] place x is passes = cc
 get_filter test (first ∷ xs) zero x is passes = let same : first ≡ x = cc in let own : test first ≡ true = ap test same ∙ passes in rw own is
 get_filter test (first ∷ xs) (suc place) x is passes =
@@ -49,7 +50,8 @@ get_filter test (first ∷ xs) (suc place) x is passes =
     ⊎_elim if_first if_not (cases_Bool (test first))
 
 -- one more is counted where it passes
-pub count_more : {X : Type 0} (test : X → Bool) (xs : List X) (place : ℕ) (x : X) → slice_get xs place ≡ Some x → count_by test (take (place + 1) xs) ≡ count_by test (take place xs) + one_if (test x)
+pub count_more : {X : Type 0} (test : X → Bool) (xs : List X) (place : ℕ) (x : X) → slice_get xs place ≡ Some x
+    → count_by test (take (place + 1) xs) ≡ count_by test (take place xs) + one_if (test x)
 count_more test xs place x is =
     let within = slice_get_within xs place x is in
     let here : get_or xs place x ≡ x = get_or_from_slice_get xs place x x is in
@@ -64,7 +66,9 @@ module _ (job : Job) where
   planned = planned_of job
 
   -- the word of a clock in the script of more clocks
-  word_in : (link many clock place : ℕ) (word : Word) → clock < many → slice_get (map (word_at job clock) (passes planned link)) place ≡ Some word → slice_get (script_before job link many) (length (script_before job link clock) + place) ≡ Some word
+  word_in : (link many clock place : ℕ) (word : Word) → clock < many
+      → slice_get (map (word_at job clock) (passes planned link)) place ≡ Some word
+      → slice_get (script_before job link many) (length (script_before job link clock) + place) ≡ Some word
   word_in link zero clock place word before is = absurd (omega (arith, before))
   word_in link (suc many) clock place word before is =
       let later = map (word_at job many) (passes planned link) in
@@ -86,7 +90,8 @@ module _ (job : Job) where
     own = entries_at node (timetable planned)
 
     -- the next word of a link over which the node sends
-    pub sent_word : (number : ℕ) (link : Link) → slice_get planned.board.links number ≡ Some link → link.from ≡ node → is_sent number entry ≡ true → slice_get (script job number) (sent_by job number node state) ≡ Some (word_at job state.clock entry)
+    pub sent_word : (number : ℕ) (link : Link) → slice_get planned.board.links number ≡ Some link → link.from ≡ node
+        → is_sent number entry ≡ true → slice_get (script job number) (sent_by job number node state) ≡ Some (word_at job state.clock entry)
     unfolding script
     sent_word number link there from sends =
         let count = count_by (is_sent number) (take state.made own) in
@@ -95,7 +100,9 @@ module _ (job : Job) where
         word_in number (length job.rows) state.clock count (word_at job state.clock entry) unfinished (get_map (word_at job state.clock) (passes planned number) count entry (ap (λ (list : List Entry). slice_get list count) (sym passing) ∙ here))
 
     -- and of one from which it takes
-    pub taken_word : (number : ℕ) (link : Link) → slice_get planned.board.links number ≡ Some link → link.to ≡ node → is_taken number entry ≡ true → slice_get (script job number) (taken_by job number node state) ≡ Some (word_at job state.clock entry)
+    pub taken_word : (number : ℕ) (link : Link) → slice_get planned.board.links number ≡ Some link → link.to ≡ node
+        → is_taken number entry ≡ true
+        → slice_get (script job number) (taken_by job number node state) ≡ Some (word_at job state.clock entry)
     unfolding script
     taken_word number link there to takes =
         let count = count_by (is_taken number) (take state.made own) in
@@ -107,22 +114,26 @@ module _ (job : Job) where
   -- ---- a clock that is over
 
   module _ (node : ℕ) (state : NodeState) (all_made : state.made ≡ length (entries_at node (timetable planned))) where
-    length_more : (number : ℕ) → length (script_before job number (state.clock + 1)) ≡ length (script_before job number state.clock) + length (passes planned number)
+    length_more : (number : ℕ)
+        → length (script_before job number (state.clock + 1)) ≡ length (script_before job number state.clock) + length (passes planned number)
     length_more number =
         let later : state.clock + 1 ≡ suc state.clock = omega arith in
         ap (λ (clock : ℕ). length (script_before job number clock)) later
         ∙ length-append (script_before job number state.clock) (map (word_at job state.clock) (passes planned number))
         ∙ ap (λ (many : ℕ). length (script_before job number state.clock) + many) (length-map (passes planned number) (word_at job state.clock))
 
-    all_counted : (test : Entry → Bool) → count_by test (take state.made (entries_at node (timetable planned))) ≡ length (filter test (entries_at node (timetable planned)))
+    all_counted : (test : Entry → Bool)
+        → count_by test (take state.made (entries_at node (timetable planned))) ≡ length (filter test (entries_at node (timetable planned)))
     all_counted test = ap (count_by test) (take_all state.made (entries_at node (timetable planned)) (omega (arith, all_made))) ∙ sym (length-filter test (entries_at node (timetable planned)))
 
-    pub all_sent : (number : ℕ) (link : Link) → slice_get planned.board.links number ≡ Some link → link.from ≡ node → sent_by job number node state ≡ length (script_before job number (state.clock + 1))
+    pub all_sent : (number : ℕ) (link : Link) → slice_get planned.board.links number ≡ Some link → link.from ≡ node
+        → sent_by job number node state ≡ length (script_before job number (state.clock + 1))
     all_sent number link there from =
         let passing = ap (λ (one : ℕ). length (filter (is_sent number) (entries_at one (timetable planned)))) (sym from) ∙ ap (λ (list : List Entry). length list) (sends_are planned job.checked.sound number link there) in
         omega (arith, all_counted (is_sent number), passing, length_more number)
 
-    pub all_taken : (number : ℕ) (link : Link) → slice_get planned.board.links number ≡ Some link → link.to ≡ node → taken_by job number node state ≡ length (script_before job number (state.clock + 1))
+    pub all_taken : (number : ℕ) (link : Link) → slice_get planned.board.links number ≡ Some link → link.to ≡ node
+        → taken_by job number node state ≡ length (script_before job number (state.clock + 1))
     all_taken number link there to =
         let passing = ap (λ (one : ℕ). length (filter (is_taken number) (entries_at one (timetable planned)))) (sym to) ∙ ap (λ (list : List Entry). length list) (takes_are planned job.checked.sound number link there) ∙ length-map (passes planned number) (taken_from link) in
         omega (arith, all_counted (is_taken number), passing, length_more number)

@@ -1,11 +1,10 @@
 -- A code that was made for a node stands for its actions.
-use Rattle.std.proofs.Common.{◌≡◌, ◌<◌, ◌≤◌, ◌+◌, ◌-◌, ◌%◌, ◌&&◌, ◌||◌, ◌∷◌, ◌++◌, ◌^◌, ◌⊎◌, ℕ, zero, suc, min, Bool, true, false, not, List, [], length, map, take, get_or, cond, eqb, nat_le, nat_lt, slice_get, slice_index, Option, Some, None, if◌then◌else◌, ap, ap₂, refl, sym, subst, ◌∙◌, ⊎_elim, true≢false, eqb-true, eq-eqb, le-ltb, inl, inr, append_assoc, All, arith}
+use Rattle.std.proofs.Common.{◌≡◌, ◌<◌, ◌≤◌, ◌+◌, ◌-◌, ◌%◌, ◌&&◌, ◌||◌, ◌∷◌, ◌++◌, ◌^◌, ◌⊎◌, ℕ, zero, suc, min, Bool, true, false, not, List, [], length, map, take, get_or, eqb, nat_le, nat_lt, slice_get, Option, Some, None, if◌then◌else◌, ap, ap₂, refl, sym, subst, ◌∙◌, ⊎_elim, true≢false, eqb-true, eq-eqb, le-ltb, inl, inr, append_assoc, All, arith}
 use Rattle.std.specs.Prelude.{option_map, unwrap_or}
-use Rattle.std.specs.List.{AllByRecursion, filter, list_any, range_with_len}
-use Rattle.std.proofs.lemmas.Bool.{and_from, and_parts, cases_eq, leb-true, ltb-false, ltb-true, or_cases, or_left, or_right}
+use Rattle.std.specs.List.{AllByRecursion, list_any, range_with_len}
+use Rattle.std.proofs.lemmas.Bool.{and_from, and_parts, leb-true, or_cases, or_left, or_right}
 use Rattle.std.proofs.lemmas.List.{length-map, length-take}
 use Rattle.std.proofs.lemmas.List.Elements.{All-from_recursion, All-take, filter_passes, recursion_from_All}
-use Rattle.std.proofs.lemmas.List.Folds.{list_any-append}
 use Rattle.std.proofs.lemmas.Option.{slice_get-map, slice_get_within}
 use Rattle.vw_net.specs.declared.cell.Cell.{Cell}
 use Rattle.vw_net.specs.declared.cell.Cell.TheVariants.{Gate, Latch}
@@ -37,21 +36,12 @@ use Rattle.vw_prog.specs.Loops.{AreLoops, loop_place}
 use Rattle.vw_prog.specs.SeenGates.{SeenGate, narrowed, seen_gates}
 use Rattle.vw_prog.specs.Timetable.{entries_at, is_evaluating, is_sending, timetable}
 use Rattle.vw_prog.proofs.DueReads.{finds_ends, finds_reads}
-use Rattle.vw_prog.proofs.EntryParts.{HasParts, entry_has}
+use Rattle.vw_prog.proofs.EntryParts.{entry_has}
 use Rattle.vw_prog.proofs.JoinedOps.{Becomes, IsKept, all_ones, joined_at, joined_runs, kept_at, length-all_ops, length-joined}
 use Rattle.vw_prog.proofs.LinkPasses.{turn_of}
 use Rattle.vw_prog.proofs.ShiftLoops.{AllNets, OfSent, are_loops, nets_all}
 use Rattle.vw_prog.proofs.NamedNets.{all_have_slots, below, first_slots}
-
--- ---- lists
-
-all_from : {X : Type 0} (P : X → Type 0) (xs : List X) → ((place : ℕ) (x : X) → slice_get xs place ≡ Some x → P x) → AllByRecursion P xs
-all_from P [] all = tt
-all_from P (x ∷ xs) all = (all 0 x refl, all_from P xs (λ place other is. all (suc place) other is))
-
-map_twice : {A B C : Type 0} (g : B → C) (f : A → B) (xs : List A) → map g (map f xs) ≡ map (λ x. g (f x)) xs
-map_twice g f [] = refl
-map_twice g f (x ∷ xs) = ap (λ (rest : List _). g (f x) ∷ rest) (map_twice g f xs)
+use Rattle.vw_prog.proofs.OwnNets.{all_from, map_twice, own_latch_at, among_known, source_known, due_known, due_later}
 
 -- a front that has all of a list, and some of the next
 take_front : {X : Type 0} (count : ℕ) (xs ys : List X) → length xs ≤ count → take count (xs ++ ys) ≡ xs ++ take (count - length xs) ys
@@ -60,31 +50,6 @@ take_front zero (x ∷ xs) ys most = absurd (omega (arith, most))
 take_front (suc count) (x ∷ xs) ys most =
     let rest : count - length xs ≡ suc count - length (x ∷ xs) = omega arith in
     ap (λ (list : List _). x ∷ list) (take_front count xs ys (omega (arith, most))) ∙ ap (λ (many : ℕ). x ∷ (xs ++ take many ys)) rest
-
--- a function that is another one at each element
-map_as : {A B : Type 0} (f g : A → B) (xs : List A) → AllByRecursion (λ x. f x ≡ g x) xs → map f xs ≡ map g xs
-map_as f g [] all = refl
-map_as f g (x ∷ xs) all = ap₂ (λ (one : _) (rest : List _). one ∷ rest) all.0 (map_as f g xs all.1)
-
-among_range : (count first net : ℕ) → first ≤ net → net < first + count → is_among (range_with_len first count) net ≡ true
-among_range zero first net from to = absurd (omega (arith, from, to))
-among_range (suc count) first net from to =
-    ⊎_elim (λ (same : first ≡ net). or_left (eqb first net) (is_among (range_with_len (first + 1) count) net) (eq-eqb first net same))
-    (λ (apart : first ≡ net → ⊥). or_right (eqb first net) (is_among (range_with_len (first + 1) count) net) (among_range count (first + 1) net (omega (arith, from, apart)) (omega (arith, to)))) (cases_eq first net)
-
-among_passing : (test : ℕ → Bool) (count first net : ℕ) → first ≤ net → net < first + count → test net ≡ true → is_among (filter test (range_with_len first count)) net ≡ true
-among_passing test zero first net from to passes = absurd (omega (arith, from, to))
-among_passing test (suc count) first net from to passes =
-    let more = filter test (range_with_len (first + 1) count) in
-    ⊎_elim (λ (same : first ≡ net).
-    let kept : test first ≡ true = ap test same ∙ passes in
-    ap (λ (keep : Bool). is_among (cond keep (first ∷ more) more) net) kept ∙ or_left (eqb first net) (is_among more net) (eq-eqb first net same))
-    (λ (apart : first ≡ net → ⊥). by (test first) (among_passing test count (first + 1) net (omega (arith, from, apart)) (omega (arith, to)) passes)) (cases_eq first net) where
-      by : (keep : Bool) → is_among (filter test (range_with_len (first + 1) count)) net ≡ true → is_among (cond keep (first ∷ filter test (range_with_len (first + 1) count)) (filter test (range_with_len (first + 1) count))) net ≡ true
-      by false there = there
-      by true there = or_right (eqb first net) (is_among (filter test (range_with_len (first + 1) count)) net) there
-
--- ---- what the actions give
 
 module _ (planned : PlannedBoard) (sound : IsSound planned) (node : ℕ) where
   abbrev flat : Flat
@@ -105,50 +70,6 @@ module _ (planned : PlannedBoard) (sound : IsSound planned) (node : ℕ) where
   abbrev own : List ℕ
   own = own_latches planned node
 
-  -- an entry that settles_net a net has an action that does
-  given : (entries : List Entry) → AllByRecursion (HasParts planned sound) entries → (net : ℕ) → list_any (settles_net net) entries ≡ true
-      → (is_among (gate_nets inputs (map (action_of inputs) entries ++ action.Step ∷ [])) net || is_among (take_nets (map (action_of inputs) entries ++ action.Step ∷ [])) net) ≡ true
-  given [] all net any = absurd (true≢false (sym any))
-  given (entry ∷ entries) all net any =
-      let rest = λ (later : list_any (settles_net net) entries ≡ true). given entries all.1 net later in
-      by (is_evaluating entry) (is_sending entry) refl refl (or_cases (settles_net net entry) (list_any (settles_net net) entries) any) rest where
-        abbrev_rest : List Action
-        abbrev_rest = map (action_of inputs) entries ++ action.Step ∷ []
-
-        same_net : settles_net net entry ≡ true → entry.net ≡ net
-        same_net is = eqb-true entry.net net (and_parts (not (is_sending entry)) (eqb entry.net net) is).1
-
-        number : is_evaluating entry ≡ true → min (inputs + (entry.net - inputs)) (2 ^ 32 - 1) ≡ entry.net
-        number is =
-            let its = all.0.gate is in
-            let low : entry.net < count = all.0.net in
-            omega (arith, its.1.0, low, flat.few_inputs, flat.few_cells)
-
-        by : (first second : Bool) → is_evaluating entry ≡ first → is_sending entry ≡ second → (settles_net net entry ≡ true) ⊎ (list_any (settles_net net) entries ≡ true)
-            → (list_any (settles_net net) entries ≡ true → (is_among (gate_nets inputs abbrev_rest) net || is_among (take_nets abbrev_rest) net) ≡ true)
-            → (is_among (gate_nets inputs ((if first then action.Evaluate (entry.net - inputs) else (if second then action.Send entry.link entry.place entry.net else action.Take entry.link entry.place entry.net)) ∷ abbrev_rest)) net
-            || is_among (take_nets ((if first then action.Evaluate (entry.net - inputs) else (if second then action.Send entry.link entry.place entry.net else action.Take entry.link entry.place entry.net)) ∷ abbrev_rest)) net) ≡ true
-        by true second first_is second_is why rest =
-            ⊎_elim (λ (here : settles_net net entry ≡ true).
-            or_left (eqb (min (inputs + (entry.net - inputs)) (2 ^ 32 - 1)) net || is_among (gate_nets inputs abbrev_rest) net) (is_among (take_nets abbrev_rest) net)
-            (or_left (eqb (min (inputs + (entry.net - inputs)) (2 ^ 32 - 1)) net) (is_among (gate_nets inputs abbrev_rest) net) (eq-eqb (min (inputs + (entry.net - inputs)) (2 ^ 32 - 1)) net (number first_is ∙ same_net here))))
-            (λ (later : list_any (settles_net net) entries ≡ true).
-            ⊎_elim (λ (one : is_among (gate_nets inputs abbrev_rest) net ≡ true).
-            or_left (eqb (min (inputs + (entry.net - inputs)) (2 ^ 32 - 1)) net || is_among (gate_nets inputs abbrev_rest) net) (is_among (take_nets abbrev_rest) net) (or_right (eqb (min (inputs + (entry.net - inputs)) (2 ^ 32 - 1)) net) (is_among (gate_nets inputs abbrev_rest) net) one))
-            (λ (two : is_among (take_nets abbrev_rest) net ≡ true). or_right (eqb (min (inputs + (entry.net - inputs)) (2 ^ 32 - 1)) net || is_among (gate_nets inputs abbrev_rest) net) (is_among (take_nets abbrev_rest) net) two)
-            (or_cases (is_among (gate_nets inputs abbrev_rest) net) (is_among (take_nets abbrev_rest) net) (rest later))) why
-        by false true first_is second_is why rest =
-            ⊎_elim (λ (here : settles_net net entry ≡ true). absurd (true≢false (sym (and_parts (not (is_sending entry)) (eqb entry.net net) here).0 ∙ ap not second_is))) rest why
-        by false false first_is second_is why rest =
-            ⊎_elim (λ (here : settles_net net entry ≡ true). or_right (is_among (gate_nets inputs abbrev_rest) net) (eqb entry.net net || is_among (take_nets abbrev_rest) net) (or_left (eqb entry.net net) (is_among (take_nets abbrev_rest) net) (eq-eqb entry.net net (same_net here))))
-            (λ (later : list_any (settles_net net) entries ≡ true).
-            ⊎_elim (λ (one : is_among (gate_nets inputs abbrev_rest) net ≡ true). or_left (is_among (gate_nets inputs abbrev_rest) net) (eqb entry.net net || is_among (take_nets abbrev_rest) net) one)
-            (λ (two : is_among (take_nets abbrev_rest) net ≡ true). or_right (is_among (gate_nets inputs abbrev_rest) net) (eqb entry.net net || is_among (take_nets abbrev_rest) net) (or_right (eqb entry.net net) (is_among (take_nets abbrev_rest) net) two))
-            (or_cases (is_among (gate_nets inputs abbrev_rest) net) (is_among (take_nets abbrev_rest) net) (rest later))) why
-
-  all_parts : AllByRecursion (HasParts planned sound) own_entries
-  all_parts = all_from (HasParts planned sound) own_entries (λ place entry is. entry_has planned sound node place entry is)
-
   abbrev latches : List OwnLatch
   latches = map (own_latch flat) own
 
@@ -157,74 +78,6 @@ module _ (planned : PlannedBoard) (sound : IsSound planned) (node : ℕ) where
 
   abbrev host_nets : List ℕ
   host_nets = if eqb node 0 then range_with_len 0 inputs else []
-
-  nets_back : map (λ (latch : OwnLatch). latch.net) latches ≡ own
-  nets_back = map_twice (λ (latch : OwnLatch). latch.net) (own_latch flat) own ∙ map_id own where
-    map_id : (xs : List ℕ) → map (λ x. x) xs ≡ xs
-    map_id [] = refl
-    map_id (x ∷ xs) = ap (λ (rest : List ℕ). x ∷ rest) (map_id xs)
-
-  -- a latch of the node
-  own_latch_at : (net : ℕ) → (is_latch (driving_cell flat net) && eqb (home planned net) node) ≡ true → (net < count) × (is_among own net ≡ true)
-  own_latch_at net is =
-      let latch = (and_parts (is_latch (driving_cell flat net)) (eqb (home planned net) node) is).0 in
-      let low = by (nat_lt net inputs) refl latch in
-      (omega (arith, low.1), among_passing (λ (one : ℕ). is_latch (driving_cell flat one) && eqb (home planned one) node) (length flat.cells) inputs net low.0 low.1 is) where
-        by : (input : Bool) → nat_lt net inputs ≡ input → is_latch (if input then None else slice_get flat.cells (net - inputs)) ≡ true → (inputs ≤ net) × (net < inputs + length flat.cells)
-        by true test at = absurd (true≢false (sym at))
-        by false test at =
-            let from : inputs ≤ net = ltb-false net inputs test in
-            (from, omega (arith, from, inside (slice_get flat.cells (net - inputs)) refl at)) where
-              inside : (cell : Option Cell) → slice_get flat.cells (net - inputs) ≡ cell → is_latch cell ≡ true → net - inputs < length flat.cells
-              inside None there at = absurd (true≢false (sym at))
-              inside (Some cell) there at = slice_get_within flat.cells (net - inputs) cell there
-
-  -- what is due is known
-  among_known : (net : ℕ) → ((is_among host_nets net || is_among own net) || (is_among (gate_nets inputs program) net || is_among (take_nets program) net)) ≡ true → is_among known net ≡ true
-  among_known net is =
-      let third = list_any-append (λ (other : ℕ). eqb other net) (host_nets ++ map (λ (latch : OwnLatch). latch.net) latches ++ gate_nets inputs program) (take_nets program) in
-      let second = list_any-append (λ (other : ℕ). eqb other net) (host_nets ++ map (λ (latch : OwnLatch). latch.net) latches) (gate_nets inputs program) in
-      let first = list_any-append (λ (other : ℕ). eqb other net) host_nets (map (λ (latch : OwnLatch). latch.net) latches) ∙ ap (λ (nets : List ℕ). is_among host_nets net || is_among nets net) nets_back in
-      third ∙ ap (λ (front : Bool). front || is_among (take_nets program) net) (second ∙ ap (λ (front : Bool). front || is_among (gate_nets inputs program) net) first)
-      ∙ regroup (is_among host_nets net || is_among own net) (is_among (gate_nets inputs program) net) (is_among (take_nets program) net) ∙ is where
-        regroup : (one two three : Bool) → ((one || two) || three) ≡ (one || (two || three))
-        regroup true two three = refl
-        regroup false two three = refl
-
-  source_known : (net : ℕ) → is_source planned node net ≡ true → (net < count) × (is_among known net ≡ true)
-  source_known net is =
-      let parts = and_parts (eqb (home planned net) node) (nat_lt net inputs || is_latch (driving_cell flat net)) is in
-      let given_nets = is_among (gate_nets inputs program) net || is_among (take_nets program) net in
-      let if_input = λ (input : nat_lt net inputs ≡ true).
-      let low = ltb-true net inputs input in
-      let at_host : home planned net ≡ 0 = ap (λ (is : Bool). if is then 0 else slice_index planned.plan.chip_of (net - inputs)) input in
-      let host : eqb node 0 ≡ true = eq-eqb node 0 (sym (eqb-true (home planned net) node parts.0) ∙ at_host) in
-      let there : is_among host_nets net ≡ true = ap (λ (one : Bool). is_among (if one then range_with_len 0 inputs else []) net) host ∙ among_range inputs 0 net (omega arith) (omega (arith, low)) in
-      let whole : (net < count) × (is_among known net ≡ true) = (omega (arith, low), among_known net (or_left (is_among host_nets net || is_among own net) given_nets (or_left (is_among host_nets net) (is_among own net) there))) in whole in
-      let if_latch = λ (latch : is_latch (driving_cell flat net) ≡ true).
-      let at = own_latch_at net (and_from (is_latch (driving_cell flat net)) (eqb (home planned net) node) latch parts.0) in
-      let whole : (net < count) × (is_among known net ≡ true) = (at.0, among_known net (or_left (is_among host_nets net || is_among own net) given_nets (or_right (is_among host_nets net) (is_among own net) at.1))) in whole in
-      ⊎_elim if_input if_latch (or_cases (nat_lt net inputs) (is_latch (driving_cell flat net)) parts.1)
-
-  due_known : (net : ℕ) → is_due planned node own_entries net ≡ true → is_among known net ≡ true
-  due_known net is =
-      ⊎_elim (λ (source : is_source planned node net ≡ true). (source_known net source).1)
-      (λ (any : list_any (settles_net net) own_entries ≡ true). among_known net (or_right (is_among host_nets net || is_among own net) (is_among (gate_nets inputs program) net || is_among (take_nets program) net) (given own_entries all_parts net any)))
-      (or_cases (is_source planned node net) (list_any (settles_net net) own_entries) is)
-
-  -- what was due sooner
-  due_later : (many : ℕ) (net : ℕ) → is_due planned node (take many own_entries) net ≡ true → is_due planned node own_entries net ≡ true
-  due_later many net is =
-      ⊎_elim (λ (source : is_source planned node net ≡ true). or_left (is_source planned node net) (list_any (settles_net net) own_entries) source)
-      (λ (any : list_any (settles_net net) (take many own_entries) ≡ true). or_right (is_source planned node net) (list_any (settles_net net) own_entries) (more own_entries many any))
-      (or_cases (is_source planned node net) (list_any (settles_net net) (take many own_entries)) is) where
-        more : (entries : List Entry) (many : ℕ) → list_any (settles_net net) (take many entries) ≡ true → list_any (settles_net net) entries ≡ true
-        more [] zero any = any
-        more [] (suc many) any = any
-        more (entry ∷ entries) zero any = absurd (true≢false (sym any))
-        more (entry ∷ entries) (suc many) any =
-            ⊎_elim (λ (here : settles_net net entry ≡ true). or_left (settles_net net entry) (list_any (settles_net net) entries) here)
-            (λ (later : list_any (settles_net net) (take many entries) ≡ true). or_right (settles_net net entry) (list_any (settles_net net) entries) (more entries many later)) (or_cases (settles_net net entry) (list_any (settles_net net) (take many entries)) any)
 
   -- ---- a code
 
@@ -246,18 +99,19 @@ module _ (planned : PlannedBoard) (sound : IsSound planned) (node : ℕ) where
     IsIn net = net_slot nets net ≡ Some (slot_in table net)
 
     due_in : (net : ℕ) → net < count → is_due planned node own_entries net ≡ true → IsIn net
-    due_in net low due = known_slot net low (due_known net due)
+    due_in net low due = known_slot net low (due_known planned sound node net due)
 
     slots_map : (list : List ℕ) → AllByRecursion IsIn list → map (net_slot nets) list ≡ map Some (map (slot_in table) list)
     slots_map [] all = refl
     slots_map (net ∷ list) all = ap₂ (λ (one : Option ℕ) (rest : List (Option ℕ)). one ∷ rest) all.0 (slots_map list all.1)
 
     -- what an entry nets_read
-    read_in : (place : ℕ) (entry : Entry) → slice_get own_entries place ≡ Some entry → (list : List ℕ) → nets_read planned entry ≡ list → All (λ net. net < count) list → AllByRecursion IsIn list
+    read_in : (place : ℕ) (entry : Entry) → slice_get own_entries place ≡ Some entry → (list : List ℕ) → nets_read planned entry ≡ list
+        → All (λ net. net < count) list → AllByRecursion IsIn list
     read_in place entry at list are low =
         recursion_from_All IsIn list (λ spot default within.
         let finds : is_due planned node (take place own_entries) (get_or (nets_read planned entry) spot default) ≡ true = finds_reads planned sound node place entry at spot default (omega (arith, within, ap (λ (nets : List ℕ). length nets) are)) in
-        due_in (get_or list spot default) (low spot default within) (due_later place (get_or list spot default) (ap (λ (nets : List ℕ). is_due planned node (take place own_entries) (get_or nets spot default)) (sym are) ∙ finds)))
+        due_in (get_or list spot default) (low spot default within) (due_later planned sound node place (get_or list spot default) (ap (λ (nets : List ℕ). is_due planned node (take place own_entries) (get_or nets spot default)) (sym are) ∙ finds)))
 
     -- ---- gates
 
@@ -266,7 +120,8 @@ module _ (planned : PlannedBoard) (sound : IsSound planned) (node : ℕ) where
     read_slot (net ∷ ins) all zero some = below nets net (slot_in table net) all.0
     read_slot (net ∷ ins) all (suc place) some = read_slot ins all.1 place some
 
-    six_slots : (ins : List ℕ) (inputs truth_table : ℕ) → length ins ≤ 6 → (more : List ℕ) × ((table_gate table ins inputs truth_table).reads ≡ map (slot_in table) ins ++ more)
+    six_slots : (ins : List ℕ) (inputs truth_table : ℕ) → length ins ≤ 6
+        → (more : List ℕ) × ((table_gate table ins inputs truth_table).reads ≡ map (slot_in table) ins ++ more)
     six_slots [] inputs truth_table few = (0 ∷ 0 ∷ 0 ∷ 0 ∷ 0 ∷ 0 ∷ [], refl)
     six_slots (a ∷ []) inputs truth_table few = (0 ∷ 0 ∷ 0 ∷ 0 ∷ 0 ∷ [], refl)
     six_slots (a ∷ b ∷ []) inputs truth_table few = (0 ∷ 0 ∷ 0 ∷ 0 ∷ [], refl)
@@ -287,7 +142,8 @@ module _ (planned : PlannedBoard) (sound : IsSound planned) (node : ℕ) where
       its_gate = table_gate table ins cover.inputs (truth_table_of cover)
 
       -- with room for its inputs, or for more
-      is_table_gate : cover.inputs ≤ 6 → (room : ℕ) → room ≤ 6 → cover.inputs ≤ room → IsTableGate flat nets number (narrowed room its_gate) (slot_in table (inputs + number))
+      is_table_gate : cover.inputs ≤ 6 → (room : ℕ) → room ≤ 6 → cover.inputs ≤ room
+          → IsTableGate flat nets number (narrowed room its_gate) (slot_in table (inputs + number))
       is_table_gate few room most enough =
           let six = six_slots ins cover.inputs (truth_table_of cover) (omega (arith, few, fits.0)) in
           let own = map (slot_in table) ins in
@@ -326,9 +182,11 @@ module _ (planned : PlannedBoard) (sound : IsSound planned) (node : ℕ) where
       its_op = ap (λ (ops : List Op). slice_get ops place) made.ops ∙ two.1
 
     -- the entry of an action
-    entry_at : (place : ℕ) (one : Action) → slice_get program place ≡ Some one → ((entry : Entry) × ((slice_get own_entries place ≡ Some entry) × (one ≡ action_of inputs entry))) ⊎ (one ≡ action.Step)
+    entry_at : (place : ℕ) (one : Action) → slice_get program place ≡ Some one
+        → ((entry : Entry) × ((slice_get own_entries place ≡ Some entry) × (one ≡ action_of inputs entry))) ⊎ (one ≡ action.Step)
     entry_at place one is = by own_entries place is where
-      by : (entries : List Entry) (place : ℕ) → slice_get (map (action_of inputs) entries ++ action.Step ∷ []) place ≡ Some one → ((entry : Entry) × ((slice_get entries place ≡ Some entry) × (one ≡ action_of inputs entry))) ⊎ (one ≡ action.Step)
+      by : (entries : List Entry) (place : ℕ) → slice_get (map (action_of inputs) entries ++ action.Step ∷ []) place ≡ Some one
+          → ((entry : Entry) × ((slice_get entries place ≡ Some entry) × (one ≡ action_of inputs entry))) ⊎ (one ≡ action.Step)
       by [] zero at = inr cc
       by [] (suc place) at = cc
       by (entry ∷ entries) zero at = let same : one ≡ action_of inputs entry = cc in inl (entry, (refl, same))
@@ -336,7 +194,9 @@ module _ (planned : PlannedBoard) (sound : IsSound planned) (node : ℕ) where
 
     evaluating : (number : ℕ) (entry : Entry) → action.Evaluate number ≡ action_of inputs entry → (is_evaluating entry ≡ true) × (number ≡ entry.net - inputs)
     evaluating number entry is = turn (is_evaluating entry) (is_sending entry) refl is where
-      turn : (first second : Bool) → is_evaluating entry ≡ first → action.Evaluate number ≡ (if first then action.Evaluate (entry.net - inputs) else (if second then action.Send entry.link entry.place entry.net else action.Take entry.link entry.place entry.net)) → (is_evaluating entry ≡ true) × (number ≡ entry.net - inputs)
+      turn : (first second : Bool) → is_evaluating entry ≡ first
+          → action.Evaluate number ≡ (if first then action.Evaluate (entry.net - inputs) else (if second then action.Send entry.link entry.place entry.net else action.Take entry.link entry.place entry.net))
+          → (is_evaluating entry ≡ true) × (number ≡ entry.net - inputs)
       turn true second one same = (one, cc)
       turn false true one same = cc
       turn false false one same = cc
@@ -346,14 +206,16 @@ module _ (planned : PlannedBoard) (sound : IsSound planned) (node : ℕ) where
     gate_cell (Some (Gate ins cover)) is = (ins, (cover, refl))
     gate_cell (Some (Latch d init)) is = absurd (true≢false (sym is))
 
-    driven : (number : ℕ) (ins : List ℕ) (cover : Cover) → slice_get flat.cells number ≡ Some (Gate ins cover) → gate_inputs (driving_cell flat (inputs + number)) ≡ ins
+    driven : (number : ℕ) (ins : List ℕ) (cover : Cover) → slice_get flat.cells number ≡ Some (Gate ins cover)
+        → gate_inputs (driving_cell flat (inputs + number)) ≡ ins
     driven number ins cover is =
         let no : nat_lt (inputs + number) inputs ≡ false = le-ltb (inputs + number) inputs (omega arith) in
         let back : inputs + number - inputs ≡ number = omega arith in
         ap (λ (input : Bool). gate_inputs (if input then None else slice_get flat.cells (inputs + number - inputs))) no ∙ ap (λ (one : ℕ). gate_inputs (slice_get flat.cells one)) back ∙ ap gate_inputs is
 
     -- an entry that isn't a send makes its net due
-    gives_due : (place : ℕ) (entry : Entry) → slice_get own_entries place ≡ Some entry → is_sending entry ≡ false → is_due planned node own_entries entry.net ≡ true
+    gives_due : (place : ℕ) (entry : Entry) → slice_get own_entries place ≡ Some entry → is_sending entry ≡ false
+        → is_due planned node own_entries entry.net ≡ true
     gives_due place entry at apart = or_right (is_source planned node entry.net) (list_any (settles_net entry.net) own_entries) (found own_entries place at) where
       found : (entries : List Entry) (place : ℕ) → slice_get entries place ≡ Some entry → list_any (settles_net entry.net) entries ≡ true
       found [] place at = cc
@@ -362,7 +224,8 @@ module _ (planned : PlannedBoard) (sound : IsSound planned) (node : ℕ) where
           or_left (settles_net entry.net first) (list_any (settles_net entry.net) entries) (ap (settles_net entry.net) same ∙ and_from (not (is_sending entry)) (eqb entry.net entry.net) (ap not apart) (eq-eqb entry.net entry.net refl))
       found (first ∷ entries) (suc place) at = or_right (settles_net entry.net first) (list_any (settles_net entry.net) entries) (found entries place at)
 
-    gate_begins : (place number : ℕ) (at : slice_get program place ≡ Some (action.Evaluate number)) (ins : List ℕ) (cover : Cover) (is : slice_get flat.cells number ≡ Some (Gate ins cover)) → AllByRecursion IsIn ins → IsIn (inputs + number)
+    gate_begins : (place number : ℕ) (at : slice_get program place ≡ Some (action.Evaluate number)) (ins : List ℕ) (cover : Cover) (is : slice_get flat.cells number ≡ Some (Gate ins cover))
+        → AllByRecursion IsIn ins → IsIn (inputs + number)
         → (second : Op) × (slice_get code.ops.items place ≡ Some second) × BeginsWithAction flat code (action.Evaluate number) second
     gate_begins place number at ins cover is all own_in =
         (second, its_op place (action.Evaluate number) at, by (nat_le cover.inputs 6) refl) where
@@ -414,12 +277,15 @@ module _ (planned : PlannedBoard) (sound : IsSound planned) (node : ℕ) where
 
           sending : (link pin net : ℕ) (entry : Entry) → action.Send link pin net ≡ action_of inputs entry → (is_sending entry ≡ true) × (net ≡ entry.net)
           sending link pin net entry is = turn (is_evaluating entry) (is_sending entry) refl is where
-            turn : (first second : Bool) → is_sending entry ≡ second → action.Send link pin net ≡ (if first then action.Evaluate (entry.net - inputs) else (if second then action.Send entry.link entry.place entry.net else action.Take entry.link entry.place entry.net)) → (is_sending entry ≡ true) × (net ≡ entry.net)
+            turn : (first second : Bool) → is_sending entry ≡ second
+                → action.Send link pin net ≡ (if first then action.Evaluate (entry.net - inputs) else (if second then action.Send entry.link entry.place entry.net else action.Take entry.link entry.place entry.net))
+                → (is_sending entry ≡ true) × (net ≡ entry.net)
             turn true second two same = cc
             turn false true two same = (two, cc)
             turn false false two same = cc
 
-    begins : (place : ℕ) (one : Action) → slice_get program place ≡ Some one → (second : Op) × (slice_get code.ops.items place ≡ Some second) × BeginsWithAction flat code one second
+    begins : (place : ℕ) (one : Action) → slice_get program place ≡ Some one
+        → (second : Op) × (slice_get code.ops.items place ≡ Some second) × BeginsWithAction flat code one second
     begins place (action.Evaluate number) at =
         ⊎_elim (λ found.
         let entry = found.0 in
@@ -459,7 +325,9 @@ module _ (planned : PlannedBoard) (sound : IsSound planned) (node : ℕ) where
 
           taking : (link pin net : ℕ) (entry : Entry) → action.Take link pin net ≡ action_of inputs entry → (is_sending entry ≡ false) × (net ≡ entry.net)
           taking link pin net entry is = turn (is_evaluating entry) (is_sending entry) refl is where
-            turn : (first second : Bool) → is_sending entry ≡ second → action.Take link pin net ≡ (if first then action.Evaluate (entry.net - inputs) else (if second then action.Send entry.link entry.place entry.net else action.Take entry.link entry.place entry.net)) → (is_sending entry ≡ false) × (net ≡ entry.net)
+            turn : (first second : Bool) → is_sending entry ≡ second
+                → action.Take link pin net ≡ (if first then action.Evaluate (entry.net - inputs) else (if second then action.Send entry.link entry.place entry.net else action.Take entry.link entry.place entry.net))
+                → (is_sending entry ≡ false) × (net ≡ entry.net)
             turn true second two same = cc
             turn false true two same = cc
             turn false false two same = (two, cc)
@@ -469,7 +337,8 @@ module _ (planned : PlannedBoard) (sound : IsSound planned) (node : ℕ) where
 
     own_in : (net : ℕ) → is_among own net ≡ true → (is_latch (driving_cell flat net) && eqb (home planned net) node) ≡ true
     own_in net among = by own (recursion_from_All (λ (one : ℕ). (is_latch (driving_cell flat one) && eqb (home planned one) node) ≡ true) own (filter_passes (λ one. is_latch (driving_cell flat one) && eqb (home planned one) node) (range_with_len inputs (length flat.cells)))) among where
-      by : (list : List ℕ) → AllByRecursion (λ one. (is_latch (driving_cell flat one) && eqb (home planned one) node) ≡ true) list → is_among list net ≡ true → (is_latch (driving_cell flat net) && eqb (home planned net) node) ≡ true
+      by : (list : List ℕ) → AllByRecursion (λ one. (is_latch (driving_cell flat one) && eqb (home planned one) node) ≡ true) list
+          → is_among list net ≡ true → (is_latch (driving_cell flat net) && eqb (home planned net) node) ≡ true
       by [] all among = absurd (true≢false (sym among))
       by (first ∷ list) all among = ⊎_elim (λ same. subst (λ (one : ℕ). (is_latch (driving_cell flat one) && eqb (home planned one) node) ≡ true) (eqb-true first net same) all.0) (λ later. by list all.1 later) (or_cases (eqb first net) (is_among list net) among)
 
@@ -481,8 +350,8 @@ module _ (planned : PlannedBoard) (sound : IsSound planned) (node : ℕ) where
 
     latch_in : (net : ℕ) → (is_latch (driving_cell flat net) && eqb (home planned net) node) ≡ true → IsIn net
     latch_in net is =
-        let at = own_latch_at net is in
-        known_slot net at.0 (among_known net (or_left (is_among host_nets net || is_among own net) (is_among (gate_nets inputs program) net || is_among (take_nets program) net) (or_right (is_among host_nets net) (is_among own net) at.1)))
+        let at = own_latch_at planned sound node net is in
+        known_slot net at.0 (among_known planned sound node net (or_left (is_among host_nets net || is_among own net) (is_among (gate_nets inputs program) net || is_among (take_nets program) net) (or_right (is_among host_nets net) (is_among own net) at.1)))
 
     taken_in : (net : ℕ) → (is_latch (driving_cell flat net) && eqb (home planned net) node) ≡ true → IsIn (taken_net (driving_cell flat net))
     taken_in net is =
@@ -498,7 +367,8 @@ module _ (planned : PlannedBoard) (sound : IsSound planned) (node : ℕ) where
                 d_low true at = cc
                 d_low false at = (cell_fits count flat.cells (net - inputs) (Latch d init) flat.cells_fit at).1 0 0 (omega arith)
 
-    map_in : (f : ℕ → ℕ) (list : List ℕ) → AllByRecursion (λ net. IsIn (f net)) list → map (λ net. net_slot nets (f net)) list ≡ map Some (map (λ net. slot_in table (f net)) list)
+    map_in : (f : ℕ → ℕ) (list : List ℕ) → AllByRecursion (λ net. IsIn (f net)) list
+        → map (λ net. net_slot nets (f net)) list ≡ map Some (map (λ net. slot_in table (f net)) list)
     map_in f [] all = refl
     map_in f (net ∷ list) all = ap₂ (λ (one : Option ℕ) (rest : List (Option ℕ)). one ∷ rest) all.0 (map_in f list all.1)
 
@@ -506,11 +376,12 @@ module _ (planned : PlannedBoard) (sound : IsSound planned) (node : ℕ) where
     recorded_in = recursion_from_All IsIn (recorded planned node) (λ place default within. due_in (get_or (recorded planned node) place default) (low (eqb node 0) place default within) ((finds_ends planned sound node).records place default within)) where
       low : (host : Bool) → All (λ net. net < count) (if host then flat.outputs else own)
       low true = flat.outputs_fit
-      low false = All-from_recursion (λ (net : ℕ). net < count) own (own_all (λ (net : ℕ). net < count) (λ net is. (own_latch_at net is).0))
+      low false = All-from_recursion (λ (net : ℕ). net < count) own (own_all (λ (net : ℕ). net < count) (λ net is. (own_latch_at planned sound node net is).0))
 
     records_are : code.records.items ≡ map (slot_in table) (recorded planned node)
     records_are = made.records ∙ by (eqb node 0) where
-      by : (host : Bool) → (if host then map (slot_in table) flat.outputs else map (λ latch. slot_in table latch.net) latches) ≡ map (slot_in table) (if host then flat.outputs else own)
+      by : (host : Bool)
+          → (if host then map (slot_in table) flat.outputs else map (λ latch. slot_in table latch.net) latches) ≡ map (slot_in table) (if host then flat.outputs else own)
       by true = refl
       by false = map_twice (λ (latch : OwnLatch). slot_in table latch.net) (own_latch flat) own
 
@@ -537,7 +408,7 @@ module _ (planned : PlannedBoard) (sound : IsSound planned) (node : ℕ) where
       sends = λ place one at.
           All-from_recursion (λ (item : LoopNet). net_slot nets item.net ≡ Some item.slot) one.nets
           (all_at (λ (one : ShiftLoop). AllByRecursion (λ (item : LoopNet). net_slot nets item.net ≡ Some item.slot) one.nets) code.loops.items place one all_sent at);
-      sources = λ net is. let known_net = source_known net is in (slot_in table net, known_slot net known_net.0 known_net.1);
+      sources = λ net is. let known_net = source_known planned sound node net is in (slot_in table net, known_slot net known_net.0 known_net.1);
       host = λ is net low.
           let rest = map (λ (latch : OwnLatch). latch.net) latches ++ gate_nets inputs program ++ take_nets program in
           let front : known ≡ range_with_len 0 inputs ++ rest =

@@ -37,7 +37,8 @@ module _ (nodes place : ℕ) (entries : List Entry) (entry : Entry) (within : pl
   }
 
   -- an entry of a node
-  pub dealt_here : (new : List (List Entry)) → entry.node < length lists → new ≡ set lists entry.node (get_or lists entry.node [] ++ entry ∷ []) → AreOwnEntries nodes (take (place + 1) entries) new
+  pub dealt_here : (new : List (List Entry)) → entry.node < length lists
+      → new ≡ set lists entry.node (get_or lists entry.node [] ++ entry ∷ []) → AreOwnEntries nodes (take (place + 1) entries) new
   dealt_here new inside is_new = record {
     count = ap length is_new ∙ length-set lists entry.node _ ∙ dealt.count;
     each = λ node low.
@@ -56,7 +57,9 @@ module _ (nodes place : ℕ) (entries : List Entry) (entry : Entry) (within : pl
   }
 
 -- a list with an entry more
-pub pushed : (lists : List (Vec Entry)) (place : ℕ) (list new : Vec Entry) (entry : Entry) → place < length lists → list ≡ get_or lists place list → new.items ≡ list.items ++ entry ∷ [] → lists_of (set lists place new) ≡ set (lists_of lists) place (get_or (lists_of lists) place [] ++ entry ∷ [])
+pub pushed : (lists : List (Vec Entry)) (place : ℕ) (list new : Vec Entry) (entry : Entry) → place < length lists
+    → list ≡ get_or lists place list → new.items ≡ list.items ++ entry ∷ []
+    → lists_of (set lists place new) ≡ set (lists_of lists) place (get_or (lists_of lists) place [] ++ entry ∷ [])
 pushed lists place list new entry within is more =
     map-set (λ (one : Vec Entry). one.items) lists place new
     ∙ ap (set (lists_of lists) place) (more ∙ ap (λ (items : List Entry). items ++ entry ∷ []) (ap (λ (one : Vec Entry). one.items) is ∙ sym (get_or-map (λ (one : Vec Entry). one.items) lists place list [] within)))

@@ -84,7 +84,8 @@ module _ (planned : PlannedBoard) (sound : IsSound planned) where
     its_chip = ap (λ (input : Bool). if input then 0 else slice_index planned.plan.chip_of (net - inputs)) no_input ∙ ap (slice_index planned.plan.chip_of) its_number
 
     -- its lead is no less than that of what it nets_read
-    reads_sooner : (read : ℕ) → is_among (gate_inputs (driving_cell planned.ordered.flat net)) read ≡ true → lead planned (home planned net) read ≤ lead planned (home planned net) net
+    reads_sooner : (read : ℕ) → is_among (gate_inputs (driving_cell planned.ordered.flat net)) read ≡ true
+        → lead planned (home planned net) read ≤ lead planned (home planned net) net
     reads_sooner read among =
         let least = greatest_read-least (lead planned (home planned net)) (driving_cell planned.ordered.flat net) read among in
         let is : lead planned (home planned net) net ≡ greatest_read (lead planned (home planned net)) (driving_cell planned.ordered.flat net) =
@@ -97,7 +98,8 @@ module _ (planned : PlannedBoard) (sound : IsSound planned) where
     gate_reads_nets (Some (Latch d init)) read among = absurd (true≢false (sym among))
 
     -- a net of a gate that stands earlier in the order
-    earlier_gate : (read : ℕ) → is_among (gate_inputs (driving_cell planned.ordered.flat net)) read ≡ true → inputs ≤ read → home planned read ≡ home planned net → is_among (take place order) (read - inputs) ≡ true → GivenBefore own read
+    earlier_gate : (read : ℕ) → is_among (gate_inputs (driving_cell planned.ordered.flat net)) read ≡ true → inputs ≤ read
+        → home planned read ≡ home planned net → is_among (take place order) (read - inputs) ≡ true → GivenBefore own read
     earlier_gate read among driven same before =
         let found = among_at (take place order) (read - inputs) before in
         let inside : found.0 < place = omega (arith, found.1, length-take place order) in
@@ -118,7 +120,8 @@ module _ (planned : PlannedBoard) (sound : IsSound planned) where
         (giver, ⊎_elim if_less if_same (cases_lt entry.moment own.moment))
 
     -- a net of another node was taken before
-    taken_before : (read : ℕ) → is_among (gate_inputs (driving_cell planned.ordered.flat net)) read ≡ true → is_needed planned.ordered.flat planned.plan.chip_of read (home planned net) ≡ true → GivenBefore own read
+    taken_before : (read : ℕ) → is_among (gate_inputs (driving_cell planned.ordered.flat net)) read ≡ true
+        → is_needed planned.ordered.flat planned.plan.chip_of read (home planned net) ≡ true → GivenBefore own read
     taken_before read among needed =
         let given = needed_gives planned sound (home planned net) read needed in
         (given.0, by_moment given.0.entry own (omega (arith, given.1, reads_sooner read among)))
@@ -187,7 +190,8 @@ module _ (planned : PlannedBoard) (sound : IsSound planned) where
       let turn : own.moment % 3 ≡ 0 = omega arith in
       gate_found place number at net (ap (λ (first : Bool). is_among (if first then gate_inputs (driving_cell planned.ordered.flat own.net) else (if is_sending own then own.net ∷ [] else [])) net) (sym (eq-eqb (own.moment % 3) 0 turn)) ∙ among)
 
-  sent_finds : (number place : ℕ) (wire : Wire) (hop : Hop) → slice_get planned.plan.wires number ≡ Some wire → slice_get wire.hops place ≡ Some hop → FindsAll (sent_entry planned.board.links wire.net hop)
+  sent_finds : (number place : ℕ) (wire : Wire) (hop : Hop) → slice_get planned.plan.wires number ≡ Some wire
+      → slice_get wire.hops place ≡ Some hop → FindsAll (sent_entry planned.board.links wire.net hop)
   sent_finds number place wire hop there is net among =
       let own = sent_entry planned.board.links wire.net hop in
       let turn : own.moment % 3 ≡ 1 = omega arith in
@@ -205,7 +209,9 @@ module _ (planned : PlannedBoard) (sound : IsSound planned) where
       let inner : is_among (if is_sending own then own.net ∷ [] else []) net ≡ true = ap (λ (first : Bool). is_among (if first then gate_inputs (driving_cell planned.ordered.flat own.net) else (if is_sending own then own.net ∷ [] else [])) net) (sym (other 0 (own.moment % 3) 2 turn (omega arith))) ∙ among in
       absurd (true≢false (sym (ap (λ (first : Bool). is_among (if first then own.net ∷ [] else []) net) (sym (other 1 (own.moment % 3) 2 turn (omega arith))) ∙ inner)))
 
-  gates_find : (from : ℕ) (numbers : List ℕ) → ((place number : ℕ) → slice_get numbers place ≡ Some number → FindsAll (gate_entry planned (from + place) number)) → AllByRecursion FindsAll (gate_entries planned from numbers)
+  gates_find : (from : ℕ) (numbers : List ℕ)
+      → ((place number : ℕ) → slice_get numbers place ≡ Some number → FindsAll (gate_entry planned (from + place) number))
+      → AllByRecursion FindsAll (gate_entries planned from numbers)
   gates_find from [] each = tt
   gates_find from (number ∷ numbers) each =
       let at : from + 0 ≡ from = omega arith in (
@@ -235,7 +241,8 @@ module _ (planned : PlannedBoard) (sound : IsSound planned) where
     own_rises = part_rises comes_before is_order (is_at node) (entries planned)
 
     -- what passes a test among all entries does so among those of the node
-    any_own : (test : Entry → Bool) → ((entry : Entry) → test entry ≡ true → is_at node entry ≡ true) → list_any test (entries planned) ≡ true → list_any test own_entries ≡ true
+    any_own : (test : Entry → Bool) → ((entry : Entry) → test entry ≡ true → is_at node entry ≡ true)
+        → list_any test (entries planned) ≡ true → list_any test own_entries ≡ true
     unfolding timetable
     any_own test at any = any_part test (is_at node) at (timetable planned) (any_sorted comes_before test (entries planned) ∙ any)
 
@@ -276,12 +283,14 @@ module _ (planned : PlannedBoard) (sound : IsSound planned) where
         needed_due net (and_from (not (eqb (home planned net) node)) (reads_it || (eqb node 0 && is_among planned.ordered.flat.outputs net)) (ap not away) (or_right reads_it (eqb node 0 && is_among planned.ordered.flat.outputs net) at_host)) in
         ⊎_elim if_own if_away (cases_Bool (eqb (home planned net) node))
 
-    latch_due : (net : ℕ) → (is_latch (driving_cell planned.ordered.flat net) && eqb (home planned net) node) ≡ true → is_due planned node own_entries net ≡ true
+    latch_due : (net : ℕ) → (is_latch (driving_cell planned.ordered.flat net) && eqb (home planned net) node) ≡ true
+        → is_due planned node own_entries net ≡ true
     latch_due net is =
         let parts = and_parts (is_latch (driving_cell planned.ordered.flat net)) (eqb (home planned net) node) is in
         or_left (is_source planned node net) (list_any (settles_net net) own_entries) (and_from (eqb (home planned net) node) (nat_lt net inputs || is_latch (driving_cell planned.ordered.flat net)) parts.1 (or_right (nat_lt net inputs) (is_latch (driving_cell planned.ordered.flat net)) parts.0))
 
-    input_due : (latch d : ℕ) (init : Init) → driving_cell planned.ordered.flat latch ≡ Some (Latch d init) → home planned latch ≡ node → is_due planned node own_entries d ≡ true
+    input_due : (latch d : ℕ) (init : Init) → driving_cell planned.ordered.flat latch ≡ Some (Latch d init) → home planned latch ≡ node
+        → is_due planned node own_entries d ≡ true
     input_due latch d init is here =
         let number = latch - inputs in
         let if_input = λ (input : nat_lt latch inputs ≡ true).
@@ -297,7 +306,8 @@ module _ (planned : PlannedBoard) (sound : IsSound planned) where
         needed_due d (ap (λ (one : ℕ). is_needed planned.ordered.flat planned.plan.chip_of d one) chip ∙ needed) in
         let whole : is_due planned node own_entries d ≡ true = ⊎_elim if_own if_away (cases_Bool (eqb (home planned d) node)) in whole in
         ⊎_elim if_input if_cell (cases_Bool (nat_lt latch inputs)) where
-          read_below : (number : ℕ) (cell : Cell) (net : ℕ) → slice_get cells number ≡ Some cell → is_among (read_nets cell) net ≡ true → net < inputs + length cells
+          read_below : (number : ℕ) (cell : Cell) (net : ℕ) → slice_get cells number ≡ Some cell → is_among (read_nets cell) net ≡ true
+              → net < inputs + length cells
           read_below number cell net at among =
               let fits : IsWellFormed (inputs + length cells) cell = subst (IsWellFormed (inputs + length cells)) (get_or_from_slice_get cells number cell cell at) (planned.ordered.flat.cells_fit number cell (slice_get_within cells number cell at)) in
               among_below (read_nets cell) net (inputs + length cells) fits.1 among
@@ -307,6 +317,7 @@ module _ (planned : PlannedBoard) (sound : IsSound planned) where
       records = λ place default within. by (eqb node 0) refl place default within;
       inputs = input_due;
     } where
-      by : (host : Bool) → eqb node 0 ≡ host → All (λ net. is_due planned node own_entries net ≡ true) (if host then planned.ordered.flat.outputs else own_latches planned node)
+      by : (host : Bool) → eqb node 0 ≡ host
+          → All (λ net. is_due planned node own_entries net ≡ true) (if host then planned.ordered.flat.outputs else own_latches planned node)
       by true is place default within = output_due (get_or planned.ordered.flat.outputs place default) (eqb-true node 0 is) (at_among planned.ordered.flat.outputs place default within)
       by false is place default within = latch_due (get_or (own_latches planned node) place default) (filter_passes (λ net. is_latch (driving_cell planned.ordered.flat net) && eqb (home planned net) node) (range_with_len inputs (length cells)) place default within)

@@ -37,7 +37,8 @@ module _ (planned : PlannedBoard) (sound : IsSound planned) where
     pub leaves : is_sending entry ≡ true → (link : Link) × ((slice_get links entry.link ≡ Some link) × (link.from ≡ entry.node))
     pub reaches : is_taking entry ≡ true → (link : Link) × ((slice_get links entry.link ≡ Some link) × (link.to ≡ entry.node))
     pub net : entry.net < planned.ordered.flat.inputs + length planned.ordered.flat.cells
-    pub gate : is_evaluating entry ≡ true → (number : ℕ) × ((entry.net ≡ planned.ordered.flat.inputs + number) × (is_gate (slice_get planned.ordered.flat.cells number) ≡ true))
+    pub gate : is_evaluating entry ≡ true
+        → (number : ℕ) × ((entry.net ≡ planned.ordered.flat.inputs + number) × (is_gate (slice_get planned.ordered.flat.cells number) ≡ true))
 
   gate_has : (place number : ℕ) → is_gate (slice_get planned.ordered.flat.cells number) ≡ true → HasParts (gate_entry planned place number)
   gate_has place number gate =
@@ -50,7 +51,8 @@ module _ (planned : PlannedBoard) (sound : IsSound planned) where
         gate = λ is. (number, (refl, gate));
       }
 
-  sent_has : (net : ℕ) (hop : Hop) → net < planned.ordered.flat.inputs + length planned.ordered.flat.cells → has_pin links hop ≡ true → HasParts (sent_entry links net hop)
+  sent_has : (net : ℕ) (hop : Hop) → net < planned.ordered.flat.inputs + length planned.ordered.flat.cells → has_pin links hop ≡ true
+      → HasParts (sent_entry links net hop)
   sent_has net hop within pin =
       let entry = sent_entry links net hop in
       let turn : entry.moment % 3 ≡ 1 = omega arith in
@@ -63,7 +65,8 @@ module _ (planned : PlannedBoard) (sound : IsSound planned) where
         gate = λ is. absurd (true≢false (sym is ∙ turn_of (entry.moment % 3) 1 0 turn (omega arith)));
       }
 
-  taken_has : (net : ℕ) (hop : Hop) → net < planned.ordered.flat.inputs + length planned.ordered.flat.cells → has_pin links hop ≡ true → HasParts (taken_entry links net hop)
+  taken_has : (net : ℕ) (hop : Hop) → net < planned.ordered.flat.inputs + length planned.ordered.flat.cells → has_pin links hop ≡ true
+      → HasParts (taken_entry links net hop)
   taken_has net hop within pin =
       let entry = taken_entry links net hop in
       let turn : entry.moment % 3 ≡ 2 = omega arith in
@@ -76,7 +79,9 @@ module _ (planned : PlannedBoard) (sound : IsSound planned) where
         gate = λ is. absurd (true≢false (sym is ∙ turn_of (entry.moment % 3) 2 0 turn (omega arith)));
       }
 
-  gates_have : (from : ℕ) (numbers : List ℕ) → ((number : ℕ) → is_among numbers number ≡ true → is_gate (slice_get planned.ordered.flat.cells number) ≡ true) → AllByRecursion HasParts (gate_entries planned from numbers)
+  gates_have : (from : ℕ) (numbers : List ℕ)
+      → ((number : ℕ) → is_among numbers number ≡ true → is_gate (slice_get planned.ordered.flat.cells number) ≡ true)
+      → AllByRecursion HasParts (gate_entries planned from numbers)
   gates_have from [] gates = tt
   gates_have from (number ∷ numbers) gates =
       (gate_has from number (gates number (or_left (eqb number number) (is_among numbers number) (eq-eqb number number refl))), gates_have (suc from) numbers (λ other among. gates other (or_right (eqb number other) (is_among numbers other) among)))
@@ -84,7 +89,8 @@ module _ (planned : PlannedBoard) (sound : IsSound planned) where
   net_within : (at : ℕ) (wire : Wire) → slice_get planned.plan.wires at ≡ Some wire → wire.net < planned.ordered.flat.inputs + length planned.ordered.flat.cells
   net_within at wire is = subst (λ (one : Wire). one.net < planned.ordered.flat.inputs + length planned.ordered.flat.cells) (get_or_from_slice_get planned.plan.wires at wire wire is) (wires_fine planned sound at wire (slice_get_within planned.plan.wires at wire is))
 
-  its_pin : (at : ℕ) (wire : Wire) → slice_get planned.plan.wires at ≡ Some wire → (place : ℕ) (hop : Hop) → slice_get wire.hops place ≡ Some hop → has_pin links hop ≡ true
+  its_pin : (at : ℕ) (wire : Wire) → slice_get planned.plan.wires at ≡ Some wire → (place : ℕ) (hop : Hop)
+      → slice_get wire.hops place ≡ Some hop → has_pin links hop ≡ true
   its_pin at wire is place hop here =
       let routed : IsRouted planned wire = subst (IsRouted planned) (get_or_from_slice_get planned.plan.wires at wire wire is) (sound.routes at wire (slice_get_within planned.plan.wires at wire is)) in
       subst (λ (one : Hop). has_pin links one ≡ true) (get_or_from_slice_get wire.hops place hop hop here) (routed.pins place hop (slice_get_within wire.hops place hop here))

@@ -33,7 +33,8 @@ module _ (planned : PlannedBoard) where
   abbrev pub IsEntry : Entry → Type 0
   IsEntry entry = (test : Entry → Bool) → test entry ≡ true → list_any test (entries planned) ≡ true
 
-  any_gate : (test : Entry → Bool) (from place number : ℕ) (numbers : List ℕ) → slice_get numbers place ≡ Some number → test (gate_entry planned (from + place) number) ≡ true → list_any test (gate_entries planned from numbers) ≡ true
+  any_gate : (test : Entry → Bool) (from place number : ℕ) (numbers : List ℕ) → slice_get numbers place ≡ Some number
+      → test (gate_entry planned (from + place) number) ≡ true → list_any test (gate_entries planned from numbers) ≡ true
   any_gate test from place number [] is passes = cc
   any_gate test from zero number (first ∷ numbers) is passes =
       let same : first ≡ number = cc in
@@ -50,7 +51,8 @@ module _ (planned : PlannedBoard) where
       ∙ or_left (list_any test (gate_entries planned 0 planned.ordered.order)) (list_any test (wire_entries links planned.plan.wires))
       (any_gate test 0 place number planned.ordered.order is (ap (λ (one : ℕ). test (gate_entry planned one number)) at ∙ passes))
 
-  pub taken_is_entry : (number place : ℕ) (wire : Wire) (hop : Hop) → slice_get planned.plan.wires number ≡ Some wire → slice_get wire.hops place ≡ Some hop → IsEntry (taken_entry links wire.net hop)
+  pub taken_is_entry : (number place : ℕ) (wire : Wire) (hop : Hop) → slice_get planned.plan.wires number ≡ Some wire
+      → slice_get wire.hops place ≡ Some hop → IsEntry (taken_entry links wire.net hop)
   taken_is_entry number place wire hop there is test passes =
       list_any-append test (gate_entries planned 0 planned.ordered.order) (wire_entries links planned.plan.wires)
       ∙ or_right (list_any test (gate_entries planned 0 planned.ordered.order)) (list_any test (wire_entries links planned.plan.wires))
@@ -78,7 +80,9 @@ module _ (planned : PlannedBoard) where
     not_one m = let is : (3 * m + 2) % 3 ≡ 2 = omega arith in ap (λ (rest : ℕ). eqb rest 1) is
 
   -- the gate at a place settles_net its net
-  pub gate_gives : (place net : ℕ) → planned.ordered.flat.inputs ≤ net → slice_get planned.ordered.order place ≡ Some (net - planned.ordered.flat.inputs) → (giver : Giver (home planned net) net) × (giver.entry.moment ≤ 3 * lead planned (home planned net) net)
+  pub gate_gives : (place net : ℕ) → planned.ordered.flat.inputs ≤ net
+      → slice_get planned.ordered.order place ≡ Some (net - planned.ordered.flat.inputs)
+      → (giver : Giver (home planned net) net) × (giver.entry.moment ≤ 3 * lead planned (home planned net) net)
   gate_gives place net driven is =
       let number = net - planned.ordered.flat.inputs in
       let back : planned.ordered.flat.inputs + number ≡ net = omega arith in (
@@ -92,7 +96,8 @@ module _ (planned : PlannedBoard) where
       )
 
   module _ (sound : IsSound planned) where
-    first_bringing : (test : Wire → Bool) (wires : List Wire) → 1 ≤ count_by test wires → (number : ℕ) × ((wire : Wire) × ((slice_get wires number ≡ Some wire) × (test wire ≡ true) × (find test wires ≡ Some wire)))
+    first_bringing : (test : Wire → Bool) (wires : List Wire) → 1 ≤ count_by test wires
+        → (number : ℕ) × ((wire : Wire) × ((slice_get wires number ≡ Some wire) × (test wire ≡ true) × (find test wires ≡ Some wire)))
     first_bringing test [] some = absurd (omega (arith, some))
     first_bringing test (wire ∷ wires) some =
         let if_here = λ (is : test wire ≡ true). let whole : (number : ℕ) × ((other : Wire) × ((slice_get (wire ∷ wires) number ≡ Some other) × (test other ≡ true) × (find test (wire ∷ wires) ≡ Some other))) = (0, (wire, (refl, is, ap (λ (here : Bool). if here then Some wire else find test wires) is))) in whole in
@@ -102,7 +107,8 @@ module _ (planned : PlannedBoard) where
         ⊎_elim if_here if_later (cases_Bool (test wire))
 
     -- the last hop of the wire that brings the net settles_net it
-    pub needed_gives : (node net : ℕ) → is_needed planned.ordered.flat planned.plan.chip_of net node ≡ true → (giver : Giver node net) × (giver.entry.moment < 3 * lead planned node net)
+    pub needed_gives : (node net : ℕ) → is_needed planned.ordered.flat planned.plan.chip_of net node ≡ true
+        → (giver : Giver node net) × (giver.entry.moment < 3 * lead planned node net)
     needed_gives node net needed =
         let flat = planned.ordered.flat in
         let one : count_by (brings net node) planned.plan.wires ≡ 1 = sound.one_wire_for_each_need net node ∙ ap (λ (is : Bool). cond is 1 0) needed in
@@ -138,7 +144,8 @@ module _ (planned : PlannedBoard) where
     -- ---- a net of the node itself
 
     -- a net is an input, a latch, or has its gate in the order
-    pub own_given : (node net : ℕ) → net < planned.ordered.flat.inputs + length planned.ordered.flat.cells → home planned net ≡ node → (is_source planned node net ≡ true) ⊎ ((giver : Giver node net) × (giver.entry.moment ≤ 3 * lead planned node net))
+    pub own_given : (node net : ℕ) → net < planned.ordered.flat.inputs + length planned.ordered.flat.cells → home planned net ≡ node
+        → (is_source planned node net ≡ true) ⊎ ((giver : Giver node net) × (giver.entry.moment ≤ 3 * lead planned node net))
     own_given node net within here =
         let inputs = planned.ordered.flat.inputs in
         let cells = planned.ordered.flat.cells in

@@ -46,7 +46,8 @@ Becomes op.Step two = two ≡ op.Step
 becomes : (one : Op) (next : Option Op) → IsOne one → ((other : Op) → next ≡ Some other → HasSome other) → Becomes one (joined_op one next)
 becomes (op.Run first end slot) None is some = (end, refl, omega (arith, is))
 becomes (op.Run first end slot) (Some (op.Run next last its)) is some = by (eqb next end) (eqb its (slot + 1)) refl where
-  by : (same follows : Bool) → eqb next end ≡ same → Becomes (op.Run first end slot) (if same then (if follows then op.Run first last slot else op.Run first end slot) else op.Run first end slot)
+  by : (same follows : Bool) → eqb next end ≡ same
+      → Becomes (op.Run first end slot) (if same then (if follows then op.Run first last slot else op.Run first end slot) else op.Run first end slot)
   by true true test = let more : next < last = some (op.Run next last its) refl in let at : next ≡ end = eqb-true next end test in (last, refl, omega (arith, is, more, at))
   by true false test = (end, refl, omega (arith, is))
   by false follows test = (end, refl, omega (arith, is))
@@ -74,24 +75,31 @@ pub length-joined : (ops : List Op) → length (joined_ops ops) ≡ length ops
 length-joined [] = refl
 length-joined (one ∷ ops) = ap suc (length-joined ops)
 
-pub joined_at : (ops : List Op) → AllByRecursion IsOne ops → (place : ℕ) (one : Op) → slice_get ops place ≡ Some one → (two : Op) × (slice_get (joined_ops ops) place ≡ Some two) × Becomes one two
+pub joined_at : (ops : List Op) → AllByRecursion IsOne ops → (place : ℕ) (one : Op) → slice_get ops place ≡ Some one
+    → (two : Op) × (slice_get (joined_ops ops) place ≡ Some two) × Becomes one two
 joined_at [] all place one is = cc
 joined_at (first ∷ ops) all zero one is =
     let same : first ≡ one = cc in
     (joined_op first (slice_get (joined_ops ops) 0), refl, subst (λ (own : Op). Becomes own (joined_op first (slice_get (joined_ops ops) 0))) same (becomes first (slice_get (joined_ops ops) 0) all.0 (next_some ops all.1 (λ place other at. joined_at ops all.1 place other at)))) where
-      next_some : (ops : List Op) → AllByRecursion IsOne ops → ((place : ℕ) (one : Op) → slice_get ops place ≡ Some one → (two : Op) × (slice_get (joined_ops ops) place ≡ Some two) × Becomes one two) → (other : Op) → slice_get (joined_ops ops) 0 ≡ Some other → HasSome other
+      next_some : (ops : List Op) → AllByRecursion IsOne ops
+          → ((place : ℕ) (one : Op) → slice_get ops place ≡ Some one → (two : Op) × (slice_get (joined_ops ops) place ≡ Some two) × Becomes one two)
+          → (other : Op) → slice_get (joined_ops ops) 0 ≡ Some other → HasSome other
       next_some [] all rest other at = cc
       next_some (next ∷ ops) all rest other at = let found = rest 0 next refl in let same : found.0 ≡ other = cc (found.1, at) in subst HasSome same (has_some next found.0 found.2)
 joined_at (first ∷ ops) all (suc place) one is = joined_at ops all.1 place one is
 
-pub joined_runs : (ops : List Op) → AllByRecursion IsOne ops → (place first end slot : ℕ) → slice_get (joined_ops ops) place ≡ Some (op.Run first end slot) → first + 1 < end → slice_get (joined_ops ops) (place + 1) ≡ Some (op.Run (first + 1) end (slot + 1))
+pub joined_runs : (ops : List Op) → AllByRecursion IsOne ops → (place first end slot : ℕ)
+    → slice_get (joined_ops ops) place ≡ Some (op.Run first end slot) → first + 1 < end
+    → slice_get (joined_ops ops) (place + 1) ≡ Some (op.Run (first + 1) end (slot + 1))
 joined_runs [] all place first end slot is more = cc
 joined_runs (one ∷ ops) all zero first end slot is more = by one (slice_get (joined_ops ops) 0) all.0 refl is where
   other_op : (own last its : ℕ) → last ≡ own + 1 → op.Run own last its ≡ op.Run first end slot → ⊥
   other_op own last its unit same = let one : own ≡ first = cc in let two : last ≡ end = cc in omega (arith, unit, one, two, more)
 
-  joins : (own last its next stop further : ℕ) (same follows : Bool) → eqb next last ≡ same → eqb further (its + 1) ≡ follows → last ≡ own + 1 → slice_get (joined_ops ops) 0 ≡ Some (op.Run next stop further)
-      → (if same then (if follows then op.Run own stop its else op.Run own last its) else op.Run own last its) ≡ op.Run first end slot → slice_get (joined_ops ops) 0 ≡ Some (op.Run (first + 1) end (slot + 1))
+  joins : (own last its next stop further : ℕ) (same follows : Bool) → eqb next last ≡ same → eqb further (its + 1) ≡ follows
+      → last ≡ own + 1 → slice_get (joined_ops ops) 0 ≡ Some (op.Run next stop further)
+      → (if same then (if follows then op.Run own stop its else op.Run own last its) else op.Run own last its) ≡ op.Run first end slot
+      → slice_get (joined_ops ops) 0 ≡ Some (op.Run (first + 1) end (slot + 1))
   joins own last its next stop further true true test behind unit there at =
       let start : own ≡ first = cc in
       let stops : stop ≡ end = cc in
@@ -102,7 +110,8 @@ joined_runs (one ∷ ops) all zero first end slot is more = by one (slice_get (j
   joins own last its next stop further true false test behind unit there at = absurd (other_op own last its unit at)
   joins own last its next stop further false follows test behind unit there at = absurd (other_op own last its unit at)
 
-  by : (one : Op) (next : Option Op) → IsOne one → slice_get (joined_ops ops) 0 ≡ next → Some (joined_op one next) ≡ Some (op.Run first end slot) → slice_get (joined_ops ops) 0 ≡ Some (op.Run (first + 1) end (slot + 1))
+  by : (one : Op) (next : Option Op) → IsOne one → slice_get (joined_ops ops) 0 ≡ next
+      → Some (joined_op one next) ≡ Some (op.Run first end slot) → slice_get (joined_ops ops) 0 ≡ Some (op.Run (first + 1) end (slot + 1))
   by (op.Run own last its) None unit there at = absurd (other_op own last its unit cc)
   by (op.Run own last its) (Some (op.Run next stop further)) unit there at =
       joins own last its next stop further (eqb next last) (eqb further (its + 1)) refl refl unit there (let inner : (if eqb next last then (if eqb further (its + 1) then op.Run own stop its else op.Run own last its) else op.Run own last its) ≡ op.Run first end slot = cc in inner)
@@ -125,7 +134,8 @@ joined_runs (one ∷ ops) all (suc place) first end slot is more =
 -- ---- the ops of actions
 
 module _ (flat : Flat) (table : List ℕ) where
-  pub length-all_ops : (program : List Action) (first place : ℕ) (loops : List ShiftLoop) → length (all_ops flat table first place loops program) ≡ length program
+  pub length-all_ops : (program : List Action) (first place : ℕ) (loops : List ShiftLoop)
+      → length (all_ops flat table first place loops program) ≡ length program
   length-all_ops [] first place loops = refl
   length-all_ops (one ∷ program) first place loops = ap suc (length-all_ops program (first + length (action_gates flat table one)) (place + length (action_wide flat table one)) (action_loops table one loops))
 
@@ -161,7 +171,9 @@ module _ (flat : Flat) (table : List ℕ) where
   there [] x rest = refl
   there (first ∷ before) x rest = there before x rest
 
-  pub kept_at : (program : List Action) (place : ℕ) (one : Action) (before : List PaddedGate) (wides : List WideGate) (first wide : ℕ) (loops : List ShiftLoop) → length before ≡ first → length wides ≡ wide → slice_get program place ≡ Some one → IsKept program before wides loops (all_ops flat table first wide loops program) place one
+  pub kept_at : (program : List Action) (place : ℕ) (one : Action) (before : List PaddedGate) (wides : List WideGate) (first wide : ℕ) (loops : List ShiftLoop)
+      → length before ≡ first → length wides ≡ wide → slice_get program place ≡ Some one
+      → IsKept program before wides loops (all_ops flat table first wide loops program) place one
   kept_at [] place one before wides first wide loops long wide_long is = cc
   kept_at (own ∷ program) zero one before wides first wide loops long wide_long is =
       let same : own ≡ one = cc in

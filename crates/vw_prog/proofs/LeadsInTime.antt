@@ -17,7 +17,8 @@ last_in_time links period [] all = omega arith
 last_in_time links period (hop ∷ []) all = omega (arith, All-head (λ (one : Hop). arrival links one < period) hop [] all)
 last_in_time links period (hop ∷ next ∷ hops) all = last_in_time links period (next ∷ hops) (All-tail (λ (one : Hop). arrival links one < period) hop (next ∷ hops) all)
 
-first_in_time : (planned : PlannedBoard) (net node : ℕ) (wires : List Wire) → All (IsRising planned) wires → option_map_or (λ (wire : Wire). after_last planned.board.links wire.hops) (find (brings net node) wires) 0 ≤ planned.plan.period
+first_in_time : (planned : PlannedBoard) (net node : ℕ) (wires : List Wire) → All (IsRising planned) wires
+    → option_map_or (λ (wire : Wire). after_last planned.board.links wire.hops) (find (brings net node) wires) 0 ≤ planned.plan.period
 first_in_time planned net node [] all = omega arith
 first_in_time planned net node (wire ∷ wires) all =
     elim (brings net node wire) as (λ here. option_map_or (λ (one : Wire). after_last planned.board.links one.hops) (if here then Some wire else find (brings net node) wires) 0 ≤ planned.plan.period) [

@@ -13,6 +13,7 @@ pub mod ShiftLoops
 pub mod NarrowedGates
 pub mod UnfoldedCodes
 pub mod LoopTurns
+pub mod OwnNets
 pub mod CodesStand
 pub mod MadeCodes
 pub mod HopPlaces

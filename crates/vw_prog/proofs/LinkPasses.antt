@@ -28,7 +28,8 @@ use Rattle.vw_prog.proofs.EntryOrder.{is_order}
 use Rattle.vw_net.proofs.ListParts.{all_append, all_flat_map}
 use Rattle.vw_net.proofs.SortedLists.{all_sorted, filter_sorted, sorted_map}
 
-filter_filter : {X : Type 0} (test part : X → Bool) (xs : List X) → AllByRecursion (λ x. test x ≡ true → part x ≡ true) xs → filter test (filter part xs) ≡ filter test xs
+filter_filter : {X : Type 0} (test part : X → Bool) (xs : List X) → AllByRecursion (λ x. test x ≡ true → part x ≡ true) xs
+    → filter test (filter part xs) ≡ filter test xs
 filter_filter test part [] all = refl
 filter_filter test part (x ∷ xs) all =
     let rest = filter_filter test part xs all.1 in
@@ -40,7 +41,8 @@ filter_filter test part (x ∷ xs) all =
     ]) in whole in
     ⊎_elim if_passes if_not (cases_Bool (test x))
 
-pub found_link : (hop : Hop) (links : List Link) → list_any (λ (link : Link). carries hop link && nat_lt hop.pin link.width) links ≡ true → find (carries hop) links ≡ None → ⊥
+pub found_link : (hop : Hop) (links : List Link) → list_any (λ (link : Link). carries hop link && nat_lt hop.pin link.width) links ≡ true
+    → find (carries hop) links ≡ None → ⊥
 found_link hop [] any none = true≢false (sym any)
 found_link hop (link ∷ links) any none =
     let if_carries = λ (is : carries hop link ≡ true). let first : Some link ≡ None = ap (λ (own : Bool). if own then Some link else find (carries hop) links) (sym is) ∙ none in let no : ⊥ = cc first in no in
@@ -57,7 +59,8 @@ find_passes test (first ∷ links) link is =
     ⊎_elim if_here if_later (cases_Bool (test first))
 
 -- the link at the place of a hop carries it
-pub place_carries : (links : List Link) (hop : Hop) (link : Link) → has_pin links hop ≡ true → slice_get links (link_of_hop links hop) ≡ Some link → carries hop link ≡ true
+pub place_carries : (links : List Link) (hop : Hop) (link : Link) → has_pin links hop ≡ true
+    → slice_get links (link_of_hop links hop) ≡ Some link → carries hop link ≡ true
 place_carries links hop link pin is = by (link_number links hop.from hop.to) (link_leads links hop.from hop.to) is where
   by : (found : Option ℕ) → LeadsTo (joins hop.from hop.to) links found → slice_get links (unwrap_or found 0) ≡ Some link → carries hop link ≡ true
   by None leads there = absurd (found_link hop links pin leads)
@@ -165,16 +168,20 @@ module _ (planned : PlannedBoard) (sound : IsSound planned) (number : ℕ) (link
   -- ---- all entries
 
   -- what three facts say of each hop says them of all entries
-  gates_keep : (P : Entry → Type 0) → ((place gate : ℕ) → P (gate_entry planned place gate)) → (from : ℕ) (numbers : List ℕ) → AllByRecursion P (gate_entries planned from numbers)
+  gates_keep : (P : Entry → Type 0) → ((place gate : ℕ) → P (gate_entry planned place gate)) → (from : ℕ) (numbers : List ℕ)
+      → AllByRecursion P (gate_entries planned from numbers)
   gates_keep P each from [] = tt
   gates_keep P each from (gate ∷ gates) = (each from gate, gates_keep P each (suc from) gates)
 
-  its_pin : (at : ℕ) (wire : Wire) → slice_get planned.plan.wires at ≡ Some wire → (place : ℕ) (hop : Hop) → slice_get wire.hops place ≡ Some hop → has_pin links hop ≡ true
+  its_pin : (at : ℕ) (wire : Wire) → slice_get planned.plan.wires at ≡ Some wire → (place : ℕ) (hop : Hop)
+      → slice_get wire.hops place ≡ Some hop → has_pin links hop ≡ true
   its_pin at wire is place hop here =
       let routed : IsRouted planned wire = subst (IsRouted planned) (get_or_from_slice_get planned.plan.wires at wire wire is) (sound.routes at wire (slice_get_within planned.plan.wires at wire is)) in
       subst (λ (one : Hop). has_pin links one ≡ true) (get_or_from_slice_get wire.hops place hop hop here) (routed.pins place hop (slice_get_within wire.hops place hop here))
 
-  all_entries : (P : Entry → Type 0) → ((place gate : ℕ) → P (gate_entry planned place gate)) → ((net : ℕ) (hop : Hop) → has_pin links hop ≡ true → P (sent_entry links net hop) × P (taken_entry links net hop)) → AllByRecursion P (entries planned)
+  all_entries : (P : Entry → Type 0) → ((place gate : ℕ) → P (gate_entry planned place gate))
+      → ((net : ℕ) (hop : Hop) → has_pin links hop ≡ true → P (sent_entry links net hop) × P (taken_entry links net hop))
+      → AllByRecursion P (entries planned)
   all_entries P gates hops =
       all_append P (gate_entries planned 0 planned.ordered.order) (wire_entries links planned.plan.wires) (gates_keep P gates 0 planned.ordered.order)
       (all_flat_map P (λ (wire : Wire). hop_entries links wire.net wire.hops) planned.plan.wires (λ at wire is.
@@ -189,7 +196,8 @@ module _ (planned : PlannedBoard) (sound : IsSound planned) (number : ℕ) (link
       filter-append (is_taken number) xs ys ∙ ap₂ (λ (first second : List Entry). first ++ second) one other
       ∙ sym (ap (map later) (filter-append (is_sent number) xs ys) ∙ map-append later (filter (is_sent number) xs) (filter (is_sent number) ys))
 
-  passes_flat_map : {A : Type 0} (f : A → List Entry) (xs : List A) → ((place : ℕ) (x : A) → slice_get xs place ≡ Some x → Passes (f x)) → Passes (flat_map f xs)
+  passes_flat_map : {A : Type 0} (f : A → List Entry) (xs : List A) → ((place : ℕ) (x : A) → slice_get xs place ≡ Some x → Passes (f x))
+      → Passes (flat_map f xs)
   passes_flat_map f [] each = refl
   passes_flat_map f (x ∷ xs) each = passes_append (f x) (flat_map f xs) (each 0 x (λ i. Some x)) (passes_flat_map f xs (λ place other is. each (suc place) other is))
 
@@ -228,7 +236,8 @@ module _ (planned : PlannedBoard) (sound : IsSound planned) (number : ℕ) (link
       ∙ ap (sorted comes_before) entries_pass
       ∙ sorted_map comes_before is_order later (λ (entry : Entry). entry.node ≡ link.from) keeps_order sending (senders (entries planned) all_send)
       ∙ ap (map later) (sym (filter_sorted comes_before is_order (is_sent number) (entries planned))) where
-        senders : (list : List Entry) → AllByRecursion SendsFrom list → AllByRecursion (λ (entry : Entry). entry.node ≡ link.from) (filter (is_sent number) list)
+        senders : (list : List Entry) → AllByRecursion SendsFrom list
+            → AllByRecursion (λ (entry : Entry). entry.node ≡ link.from) (filter (is_sent number) list)
         senders [] all = tt
         senders (entry ∷ list) all =
             let rest = senders list all.1 in

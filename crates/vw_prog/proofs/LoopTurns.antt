@@ -28,7 +28,8 @@ some_after count turns some = ap (λ (is : Bool). if is then 0 else turns) (ne_e
 
 -- ---- one action more
 
-sent_step : (link pin : ℕ) (program : List Action) (made : ℕ) (next : Action) → slice_get program made ≡ Some next → sent_over link pin (take (suc made) program) ≡ sent_over link pin (take made program) ++ sent_over link pin (next ∷ [])
+sent_step : (link pin : ℕ) (program : List Action) (made : ℕ) (next : Action) → slice_get program made ≡ Some next
+    → sent_over link pin (take (suc made) program) ≡ sent_over link pin (take made program) ++ sent_over link pin (next ∷ [])
 sent_step link pin [] made next at = cc
 sent_step link pin (one ∷ program) zero next at = let same : one ≡ next = cc in ap (λ (own : Action). sent_over link pin (own ∷ [])) same
 sent_step link pin (action.Evaluate number ∷ program) (suc made) next at = sent_step link pin program made next at
@@ -100,7 +101,8 @@ module _ (program : List Action) (loops : List ShiftLoop) where
         own_sent = ap (λ (own : Bool). if own then net ∷ [] else []) (same_pin link pin one.link one.pin (sym its_link) (sym its_pin))
 
         -- and it alone is turned
-        pub stand_turned : (new : List ℕ) → new ≡ set places at (place_after (length one.nets) (slice_index_or places at 0 + 1)) → Stand program loops (made + 1) new
+        pub stand_turned : (new : List ℕ) → new ≡ set places at (place_after (length one.nets) (slice_index_or places at 0 + 1))
+            → Stand program loops (made + 1) new
         stand_turned new is = record {
           count = ap (λ (list : List ℕ). length list) is ∙ length-set places at _ ∙ stand.count;
           stands = λ place two here. ⊎_elim (own place two here) (other place two here) (cases_eq place at);
@@ -108,10 +110,12 @@ module _ (program : List Action) (loops : List ShiftLoop) where
           one_more : suc made ≡ made + 1
           one_more = omega arith
 
-          now : (two : ShiftLoop) → sent_over two.link two.pin (take (made + 1) program) ≡ sent_over two.link two.pin (take made program) ++ sent_over two.link two.pin (action.Send link pin net ∷ [])
+          now : (two : ShiftLoop)
+              → sent_over two.link two.pin (take (made + 1) program) ≡ sent_over two.link two.pin (take made program) ++ sent_over two.link two.pin (action.Send link pin net ∷ [])
           now two = ap (λ (count : ℕ). sent_over two.link two.pin (take count program)) (sym one_more) ∙ sent_step two.link two.pin program made (action.Send link pin net) next
 
-          own : (place : ℕ) (two : ShiftLoop) → slice_get loops place ≡ Some two → place ≡ at → slice_index_or new place 0 ≡ place_after (length two.nets) (length (sent_over two.link two.pin (take (made + 1) program)))
+          own : (place : ℕ) (two : ShiftLoop) → slice_get loops place ≡ Some two → place ≡ at
+              → slice_index_or new place 0 ≡ place_after (length two.nets) (length (sent_over two.link two.pin (take (made + 1) program)))
           own place two here same =
               let its : one ≡ two = cc (there, here, same) in
               let within : at < length places = omega (arith, stand.count, slice_get_within loops at one there) in
@@ -122,7 +126,8 @@ module _ (program : List Action) (loops : List ShiftLoop) where
               ∙ ap (place_after (length one.nets)) more
               ∙ ap (λ (its : ShiftLoop). place_after (length its.nets) (length (sent_over its.link its.pin (take (made + 1) program)))) its
 
-          other : (place : ℕ) (two : ShiftLoop) → slice_get loops place ≡ Some two → (place ≡ at → ⊥) → slice_index_or new place 0 ≡ place_after (length two.nets) (length (sent_over two.link two.pin (take (made + 1) program)))
+          other : (place : ℕ) (two : ShiftLoop) → slice_get loops place ≡ Some two → (place ≡ at → ⊥)
+              → slice_index_or new place 0 ≡ place_after (length two.nets) (length (sent_over two.link two.pin (take (made + 1) program)))
           other place two here apart =
               let pins = λ (first : link ≡ two.link) (second : pin ≡ two.pin). apart (sym (are.apart at place one two there here (its_link ∙ first) (its_pin ∙ second))) in
               let none : sent_over two.link two.pin (action.Send link pin net ∷ []) ≡ [] = ap (λ (own : Bool). if own then net ∷ [] else []) (other_pin link pin two.link two.pin pins) in

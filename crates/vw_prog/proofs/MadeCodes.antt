@@ -23,9 +23,12 @@ before_or (first ∷ xs) x zero y is under = is
 before_or (first ∷ xs) x (suc place) y is under = before_or xs x place y is (omega (arith, under))
 
 pub one_more : (flat : Flat) (owned : List (Vec OwnLatch)) (lists : List (Vec Entry)) (count node : ℕ) (codes new : List Code) (code : Code) (own : Vec OwnLatch) (list : Vec Entry)
-    → length codes ≡ node → ((other : ℕ) (one : Code) → slice_get codes other ≡ Some one → IsCodeOf flat other (get_or (owned_of owned) other []) (get_or (lists_of lists) other []) count one)
-    → new ≡ codes ++ code ∷ [] → node < length owned → node < length lists → own ≡ get_or owned node own → list ≡ get_or lists node list → IsCodeOf flat node own.items list.items count code
-    → (other : ℕ) (one : Code) → slice_get new other ≡ Some one → IsCodeOf flat other (get_or (owned_of owned) other []) (get_or (lists_of lists) other []) count one
+    → length codes ≡ node
+    → ((other : ℕ) (one : Code) → slice_get codes other ≡ Some one → IsCodeOf flat other (get_or (owned_of owned) other []) (get_or (lists_of lists) other []) count one)
+    → new ≡ codes ++ code ∷ [] → node < length owned → node < length lists → own ≡ get_or owned node own → list ≡ get_or lists node list
+    → IsCodeOf flat node own.items list.items count code
+    → (other : ℕ) (one : Code) → slice_get new other ≡ Some one
+    → IsCodeOf flat other (get_or (owned_of owned) other []) (get_or (lists_of lists) other []) count one
 one_more flat owned lists count node codes new code own list long before is owned_in lists_in own_is list_is made other one at =
     let there : slice_get (codes ++ code ∷ []) other ≡ Some one = ap (λ (all : List Code). slice_get all other) (sym is) ∙ at in
     let its_own : own.items ≡ get_or (owned_of owned) node [] = ap (λ (v : Vec OwnLatch). v.items) own_is ∙ sym (get_or-map (λ (v : Vec OwnLatch). v.items) owned node own [] owned_in) in

@@ -20,7 +20,8 @@ push_other (first ∷ nets) net other apart = ap (λ (rest : Option ℕ). if eqb
 push_new : (nets : List ℕ) (net : ℕ) → net_slot nets net ≡ None → net_slot (nets ++ net ∷ []) net ≡ Some (length nets)
 push_new [] net new = ap (λ (same : Bool). if same then Some 0 else None) (eq-eqb net net refl)
 push_new (first ∷ nets) net new = by (eqb first net) (net_slot nets net) refl new (λ rest. push_new nets net rest) where
-  by : (same : Bool) (found : Option ℕ) → net_slot nets net ≡ found → (if same then Some 0 else option_map suc found) ≡ None → (net_slot nets net ≡ None → net_slot (nets ++ net ∷ []) net ≡ Some (length nets))
+  by : (same : Bool) (found : Option ℕ) → net_slot nets net ≡ found → (if same then Some 0 else option_map suc found) ≡ None
+      → (net_slot nets net ≡ None → net_slot (nets ++ net ∷ []) net ≡ Some (length nets))
       → (if same then Some 0 else option_map suc (net_slot (nets ++ net ∷ []) net)) ≡ Some (suc (length nets))
   by true found there none rest = cc
   by false (Some place) there none rest = cc
@@ -30,14 +31,16 @@ push_new (first ∷ nets) net new = by (eqb first net) (net_slot nets net) refl 
 pub below : (nets : List ℕ) (net slot : ℕ) → net_slot nets net ≡ Some slot → slot < length nets
 below [] net slot is = cc
 below (first ∷ nets) net slot is = by (eqb first net) (net_slot nets net) refl is (λ place there. below nets net place there) where
-  by : (same : Bool) (found : Option ℕ) → net_slot nets net ≡ found → (if same then Some 0 else option_map suc found) ≡ Some slot → ((place : ℕ) → net_slot nets net ≡ Some place → place < length nets) → slot < suc (length nets)
+  by : (same : Bool) (found : Option ℕ) → net_slot nets net ≡ found → (if same then Some 0 else option_map suc found) ≡ Some slot
+      → ((place : ℕ) → net_slot nets net ≡ Some place → place < length nets) → slot < suc (length nets)
   by true found there at rest = let same : 0 ≡ slot = cc in omega (arith, same)
   by false None there at rest = cc
   by false (Some place) there at rest = let same : suc place ≡ slot = cc in omega (arith, same, rest place there)
 
 -- ---- a table with a slot more
 
-count_set : (test : ℕ → Bool) (xs : List ℕ) (place x : ℕ) → place < length xs → test (get_or xs place 0) ≡ true → test x ≡ false → count_by test (set xs place x) + 1 ≡ count_by test xs
+count_set : (test : ℕ → Bool) (xs : List ℕ) (place x : ℕ) → place < length xs → test (get_or xs place 0) ≡ true → test x ≡ false
+    → count_by test (set xs place x) + 1 ≡ count_by test xs
 count_set test [] place x within old new = absurd (omega (arith, within))
 count_set test (y ∷ ys) zero x within old new = omega (arith, count_cons test x ys, count_cons test y ys, ap one_if old, ap one_if new)
 count_set test (y ∷ ys) (suc place) x within old new = omega (arith, count_cons test y (set ys place x), count_cons test y ys, count_set test ys place x (omega (arith, within)) old new)
@@ -84,7 +87,8 @@ module _ (nets table : List ℕ) (is : IsTable nets table) (few : length table <
 
   pub named_old : (nat_lt net (length table) && is_none (slot_in table net)) ≡ false → nets ≡ named (length table) nets net
   named_old taken = sym (by (nat_lt net (length table)) (net_slot nets net) refl refl) where
-    by : (low : Bool) (found : Option ℕ) → nat_lt net (length table) ≡ low → net_slot nets net ≡ found → (if low && not (is_some found) then nets ++ net ∷ [] else nets) ≡ nets
+    by : (low : Bool) (found : Option ℕ) → nat_lt net (length table) ≡ low → net_slot nets net ≡ found
+        → (if low && not (is_some found) then nets ++ net ∷ [] else nets) ≡ nets
     by false found at there = refl
     by true (Some slot) at there = refl
     by true None at there =
@@ -101,7 +105,8 @@ length-cleared (net ∷ nets) table = length-cleared nets (if nat_lt net (length
   by true = length-set table net no_slot
   by false = refl
 
-cleared_at : (nets table : List ℕ) (net : ℕ) → net < length table → (is_among nets net ≡ true) ⊎ (get_or table net 0 ≡ no_slot) → get_or (cleared nets table) net 0 ≡ no_slot
+cleared_at : (nets table : List ℕ) (net : ℕ) → net < length table → (is_among nets net ≡ true) ⊎ (get_or table net 0 ≡ no_slot)
+    → get_or (cleared nets table) net 0 ≡ no_slot
 cleared_at [] table net within why = ⊎_elim (λ none. absurd (true≢false (sym none))) (λ at. at) why
 cleared_at (first ∷ nets) table net within why =
     cleared_at nets (if nat_lt first (length table) then set table first no_slot else table) net (omega (arith, within, long (nat_lt first (length table)))) (by (nat_lt first (length table)) refl why) where
@@ -109,7 +114,8 @@ cleared_at (first ∷ nets) table net within why =
       long true = length-set table first no_slot
       long false = refl
 
-      kept : (low : Bool) → nat_lt first (length table) ≡ low → get_or table net 0 ≡ no_slot → get_or (if low then set table first no_slot else table) net 0 ≡ no_slot
+      kept : (low : Bool) → nat_lt first (length table) ≡ low → get_or table net 0 ≡ no_slot
+          → get_or (if low then set table first no_slot else table) net 0 ≡ no_slot
       kept false test at = at
       kept true test at =
           ⊎_elim (λ (same : net ≡ first). ap (λ (one : ℕ). get_or (set table first no_slot) one 0) same ∙ get_or-set_same table first no_slot 0 (ltb-true first (length table) test))
@@ -119,7 +125,8 @@ cleared_at (first ∷ nets) table net within why =
       here true test same = ap (λ (one : ℕ). get_or (set table first no_slot) one 0) (sym same) ∙ get_or-set_same table first no_slot 0 (ltb-true first (length table) test)
       here false test same = absurd (omega (arith, ltb-false first (length table) test, same, within))
 
-      by : (low : Bool) → nat_lt first (length table) ≡ low → (is_among (first ∷ nets) net ≡ true) ⊎ (get_or table net 0 ≡ no_slot) → (is_among nets net ≡ true) ⊎ (get_or (if low then set table first no_slot else table) net 0 ≡ no_slot)
+      by : (low : Bool) → nat_lt first (length table) ≡ low → (is_among (first ∷ nets) net ≡ true) ⊎ (get_or table net 0 ≡ no_slot)
+          → (is_among nets net ≡ true) ⊎ (get_or (if low then set table first no_slot else table) net 0 ≡ no_slot)
       by low test (inl among) = ⊎_elim (λ same. inr (here low test (eqb-true first net same))) (λ rest. inl rest) (or_cases (eqb first net) (is_among nets net) among)
       by low test (inr at) = inr (kept low test at)
 
@@ -131,7 +138,8 @@ count_all test (x ∷ xs) all = omega (arith, count_cons test x xs, ap one_if (a
 slot_among : (nets : List ℕ) (net slot : ℕ) → net_slot nets net ≡ Some slot → is_among nets net ≡ true
 slot_among [] net slot is = cc
 slot_among (first ∷ nets) net slot is = by (eqb first net) (net_slot nets net) refl is (λ place there. slot_among nets net place there) where
-  by : (same : Bool) (found : Option ℕ) → net_slot nets net ≡ found → (if same then Some 0 else option_map suc found) ≡ Some slot → ((place : ℕ) → net_slot nets net ≡ Some place → is_among nets net ≡ true) → (same || is_among nets net) ≡ true
+  by : (same : Bool) (found : Option ℕ) → net_slot nets net ≡ found → (if same then Some 0 else option_map suc found) ≡ Some slot
+      → ((place : ℕ) → net_slot nets net ≡ Some place → is_among nets net ≡ true) → (same || is_among nets net) ≡ true
   by true found there at rest = refl
   by false None there at rest = cc
   by false (Some place) there at rest = rest place there
@@ -145,7 +153,8 @@ table_cleared nets table is =
       slots = λ net low. none net low;
       free = omega (arith, count_all is_none (cleared nets table) (λ net low. eq-eqb (get_or (cleared nets table) net 0) no_slot (none net low)));
     } where
-      by : (net : ℕ) (found : Option ℕ) → net_slot nets net ≡ found → get_or table net 0 ≡ unwrap_or (net_slot nets net) no_slot → (is_among nets net ≡ true) ⊎ (get_or table net 0 ≡ no_slot)
+      by : (net : ℕ) (found : Option ℕ) → net_slot nets net ≡ found → get_or table net 0 ≡ unwrap_or (net_slot nets net) no_slot
+          → (is_among nets net ≡ true) ⊎ (get_or table net 0 ≡ no_slot)
       by net (Some slot) there at = inl (slot_among nets net slot there)
       by net None there at = inr (at ∙ ap (λ (one : Option ℕ). unwrap_or one no_slot) there)
 
@@ -182,7 +191,8 @@ all_have_slots count nets (first ∷ list) net low among =
     ⊎_elim if_first if_later (or_cases (eqb first net) (is_among list net) among)
 
 -- the first nets have the first slots
-pub first_slots : (many count first : ℕ) (nets list : List ℕ) → first + many ≤ count → length nets ≡ first → ((net : ℕ) → first ≤ net → net_slot nets net ≡ None) → ((net : ℕ) → net < first → net_slot nets net ≡ Some net)
+pub first_slots : (many count first : ℕ) (nets list : List ℕ) → first + many ≤ count → length nets ≡ first
+    → ((net : ℕ) → first ≤ net → net_slot nets net ≡ None) → ((net : ℕ) → net < first → net_slot nets net ≡ Some net)
     → (net : ℕ) → net < first + many → net_slot (named_all count nets (range_with_len first many ++ list)) net ≡ Some net
 first_slots zero count first nets list room long none some net low = all_keep count nets list net net (some net (omega (arith, low)))
 first_slots (suc many) count first nets list room long none some net low =

@@ -20,8 +20,10 @@ use Rattle.vw_prog.specs.Codes.{taken_net}
 use Rattle.vw_prog.specs.Coding.{own_latch, owned_of}
 
 -- one list with a latch more
-pub given_is : (lists : List (Vec OwnLatch)) (node : ℕ) (list new : Vec OwnLatch) (latch : OwnLatch) → node < length lists → list ≡ get_or lists node list → new.items ≡ list.items ++ latch ∷ []
-    → (other : ℕ) → get_or (owned_of (set lists node new)) other [] ≡ (if eqb node other then get_or (owned_of lists) other [] ++ latch ∷ [] else get_or (owned_of lists) other [])
+pub given_is : (lists : List (Vec OwnLatch)) (node : ℕ) (list new : Vec OwnLatch) (latch : OwnLatch) → node < length lists
+    → list ≡ get_or lists node list → new.items ≡ list.items ++ latch ∷ []
+    → (other : ℕ)
+    → get_or (owned_of (set lists node new)) other [] ≡ (if eqb node other then get_or (owned_of lists) other [] ++ latch ∷ [] else get_or (owned_of lists) other [])
 given_is lists node list new latch within is more other =
     let changed : owned_of (set lists node new) ≡ set (owned_of lists) node new.items = map-set (λ (one : Vec OwnLatch). one.items) lists node new in
     let inside : node < length (owned_of lists) = omega (arith, within, length-map lists (λ (one : Vec OwnLatch). one.items)) in
@@ -38,7 +40,8 @@ range_more : (first count last : ℕ) → first + count ≡ last → range_with_
 range_more first zero last is = let same : first ≡ last = omega (arith, is) in ap (λ (one : ℕ). one ∷ []) same
 range_more first (suc count) last is = ap (λ (rest : List ℕ). first ∷ rest) (range_more (first + 1) count last (omega (arith, is)))
 
-count_next : (cells : List Cell) (number : ℕ) → latch_count (take (suc number) cells) ≡ latch_count (take number cells) + one_if (is_latch (slice_get cells number))
+count_next : (cells : List Cell) (number : ℕ)
+    → latch_count (take (suc number) cells) ≡ latch_count (take number cells) + one_if (is_latch (slice_get cells number))
 count_next [] zero = omega arith
 count_next [] (suc number) = omega arith
 count_next (Gate ins cover ∷ cells) zero = omega arith
@@ -94,7 +97,8 @@ module _ (planned : PlannedBoard) where
         let fails : is_own node net ≡ false = ap (λ (one : Option Cell). is_latch one && eqb (home planned net) node) drives ∙ ap (λ (latch : Bool). latch && eqb (home planned net) node) none in
         one_more node ∙ ap (λ (keep : Bool). has_first count node ++ map (own_latch flat) (cond keep (net ∷ []) [])) fails ∙ append-nil (has_first count node)
 
-    pub latch_given : (d : ℕ) (init : Init) (chip : ℕ) (latch : OwnLatch) → cell ≡ Latch d init → chip ≡ get_or planned.plan.chip_of count 0 → latch.net ≡ net → latch.taken ≡ d → latch.number ≡ latch_count (take count flat.cells)
+    pub latch_given : (d : ℕ) (init : Init) (chip : ℕ) (latch : OwnLatch) → cell ≡ Latch d init → chip ≡ get_or planned.plan.chip_of count 0
+        → latch.net ≡ net → latch.taken ≡ d → latch.number ≡ latch_count (take count flat.cells)
         → (node : ℕ) → has_first (count + 1) node ≡ (if eqb chip node then has_first count node ++ latch ∷ [] else has_first count node)
     latch_given d init chip latch is its_chip its_net its_d its_number node =
         let own : is_own node net ≡ eqb chip node =
@@ -105,6 +109,7 @@ module _ (planned : PlannedBoard) where
           number = (ap (λ (many : ℕ). latch_count (take many flat.cells)) back ∙ sym its_number) i;
         } in
         one_more node ∙ ap (λ (keep : Bool). has_first count node ++ map (own_latch flat) (cond keep (net ∷ []) [])) own ∙ by (eqb chip node) same where
-          by : (keep : Bool) → own_latch flat net ≡ latch → has_first count node ++ map (own_latch flat) (cond keep (net ∷ []) []) ≡ (if keep then has_first count node ++ latch ∷ [] else has_first count node)
+          by : (keep : Bool) → own_latch flat net ≡ latch
+              → has_first count node ++ map (own_latch flat) (cond keep (net ∷ []) []) ≡ (if keep then has_first count node ++ latch ∷ [] else has_first count node)
           by true same = ap (λ (one : OwnLatch). has_first count node ++ one ∷ []) same
           by false same = append-nil (has_first count node)

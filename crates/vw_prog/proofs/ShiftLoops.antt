@@ -35,7 +35,8 @@ abbrev pub nets_over : ℕ → ℕ → List ShiftLoop → List ℕ
 nets_over link pin [] = []
 nets_over link pin (one ∷ loops) = if is_of link pin one then loop_nets one else nets_over link pin loops
 
-over_same : (link pin : ℕ) (item : LoopNet) (loops : List ShiftLoop) → nets_over link pin (with_net link pin item loops) ≡ nets_over link pin loops ++ item.net ∷ []
+over_same : (link pin : ℕ) (item : LoopNet) (loops : List ShiftLoop)
+    → nets_over link pin (with_net link pin item loops) ≡ nets_over link pin loops ++ item.net ∷ []
 over_same link pin item [] = ap (λ (own : Bool). if own then item.net ∷ [] else []) (same_pin link pin link pin refl refl)
 over_same link pin item (one ∷ loops) = by (is_of link pin one) refl (over_same link pin item loops) where
   by : (own : Bool) → is_of link pin one ≡ own → nets_over link pin (with_net link pin item loops) ≡ nets_over link pin loops ++ item.net ∷ []
@@ -43,7 +44,8 @@ over_same link pin item (one ∷ loops) = by (is_of link pin one) refl (over_sam
   by true is rest = ap (λ (own : Bool). if own then map (λ (one : LoopNet). one.net) (one.nets ++ item ∷ []) else nets_over link pin loops) is ∙ map-append (λ (one : LoopNet). one.net) one.nets (item ∷ [])
   by false is rest = ap (λ (own : Bool). if own then loop_nets one else nets_over link pin (with_net link pin item loops)) is ∙ rest
 
-over_other : (its other link pin : ℕ) → (its ≡ link → other ≡ pin → ⊥) → (item : LoopNet) (loops : List ShiftLoop) → nets_over link pin (with_net its other item loops) ≡ nets_over link pin loops
+over_other : (its other link pin : ℕ) → (its ≡ link → other ≡ pin → ⊥) → (item : LoopNet) (loops : List ShiftLoop)
+    → nets_over link pin (with_net its other item loops) ≡ nets_over link pin loops
 over_other its other link pin apart item [] = ap (λ (own : Bool). if own then item.net ∷ [] else []) (other_pin its other link pin apart)
 over_other its other link pin apart item (one ∷ loops) = by (is_of its other one) refl (over_other its other link pin apart item loops) where
   by : (own : Bool) → is_of its other one ≡ own → nets_over link pin (with_net its other item loops) ≡ nets_over link pin loops
@@ -54,7 +56,8 @@ over_other its other link pin apart item (one ∷ loops) = by (is_of its other o
       ap (λ (own : Bool). if own then map (λ (one : LoopNet). one.net) (one.nets ++ item ∷ []) else nets_over link pin loops) no ∙ sym (ap (λ (own : Bool). if own then loop_nets one else nets_over link pin loops) no)
   by false is rest = ap (λ (list : List ℕ). if is_of link pin one then loop_nets one else list) rest
 
-over_all : (table : List ℕ) (link pin : ℕ) (actions : List Action) (loops : List ShiftLoop) → nets_over link pin (all_loops table loops actions) ≡ nets_over link pin loops ++ sent_over link pin actions
+over_all : (table : List ℕ) (link pin : ℕ) (actions : List Action) (loops : List ShiftLoop)
+    → nets_over link pin (all_loops table loops actions) ≡ nets_over link pin loops ++ sent_over link pin actions
 over_all table link pin [] loops = sym (append-nil (nets_over link pin loops))
 over_all table link pin (action.Evaluate number ∷ actions) loops = over_all table link pin actions loops
 over_all table link pin (action.Take its other net ∷ actions) loops = over_all table link pin actions loops
@@ -80,7 +83,8 @@ abbrev pub Apart : List ShiftLoop → Type 0
 Apart [] = true ≡ true
 Apart (one ∷ loops) = (list_any (is_of one.link one.pin) loops ≡ false) × Apart loops
 
-none_with : (its other link pin : ℕ) → (its ≡ link → other ≡ pin → ⊥) → (item : LoopNet) (loops : List ShiftLoop) → list_any (is_of link pin) loops ≡ false → list_any (is_of link pin) (with_net its other item loops) ≡ false
+none_with : (its other link pin : ℕ) → (its ≡ link → other ≡ pin → ⊥) → (item : LoopNet) (loops : List ShiftLoop)
+    → list_any (is_of link pin) loops ≡ false → list_any (is_of link pin) (with_net its other item loops) ≡ false
 none_with its other link pin apart item [] none = ap (λ (own : Bool). own || false) (other_pin its other link pin apart)
 none_with its other link pin apart item (one ∷ loops) none = by (is_of its other one) (none_with its other link pin apart item loops (neither (is_of link pin one) (list_any (is_of link pin) loops) none).1) where
   by : (own : Bool) → list_any (is_of link pin) (with_net its other item loops) ≡ false
@@ -102,14 +106,16 @@ apart_all table (action.Send link pin net ∷ actions) loops apart = apart_all t
 apart_all table (action.Take link pin net ∷ actions) loops apart = apart_all table actions loops apart
 apart_all table (action.Step ∷ actions) loops apart = apart_all table actions loops apart
 
-any_at : (link pin : ℕ) (loops : List ShiftLoop) (place : ℕ) (one : ShiftLoop) → slice_get loops place ≡ Some one → one.link ≡ link → one.pin ≡ pin → list_any (is_of link pin) loops ≡ true
+any_at : (link pin : ℕ) (loops : List ShiftLoop) (place : ℕ) (one : ShiftLoop) → slice_get loops place ≡ Some one → one.link ≡ link
+    → one.pin ≡ pin → list_any (is_of link pin) loops ≡ true
 any_at link pin [] place one at first second = cc
 any_at link pin (own ∷ loops) zero one at first second =
     let same : own ≡ one = cc in
     or_left (is_of link pin own) (list_any (is_of link pin) loops) (ap (is_of link pin) same ∙ same_pin one.link one.pin link pin first second)
 any_at link pin (own ∷ loops) (suc place) one at first second = or_right (is_of link pin own) (list_any (is_of link pin) loops) (any_at link pin loops place one at first second)
 
-nets_at : (loops : List ShiftLoop) → Apart loops → (place : ℕ) (one : ShiftLoop) → slice_get loops place ≡ Some one → nets_over one.link one.pin loops ≡ loop_nets one
+nets_at : (loops : List ShiftLoop) → Apart loops → (place : ℕ) (one : ShiftLoop) → slice_get loops place ≡ Some one
+    → nets_over one.link one.pin loops ≡ loop_nets one
 nets_at [] apart place one at = cc
 nets_at (first ∷ loops) apart zero one at =
     let same : first ≡ one = cc in
@@ -118,7 +124,8 @@ nets_at (first ∷ loops) apart (suc place) one at =
     let no : is_of one.link one.pin first ≡ false = other_pin first.link first.pin one.link one.pin (λ link pin. true≢false (sym (any_at first.link first.pin loops place one at (sym link) (sym pin)) ∙ apart.0)) in
     ap (λ (is : Bool). if is then loop_nets first else nets_over one.link one.pin loops) no ∙ nets_at loops apart.1 place one at
 
-one_place : (loops : List ShiftLoop) → Apart loops → (place other : ℕ) (one two : ShiftLoop) → slice_get loops place ≡ Some one → slice_get loops other ≡ Some two → one.link ≡ two.link → one.pin ≡ two.pin → place ≡ other
+one_place : (loops : List ShiftLoop) → Apart loops → (place other : ℕ) (one two : ShiftLoop) → slice_get loops place ≡ Some one
+    → slice_get loops other ≡ Some two → one.link ≡ two.link → one.pin ≡ two.pin → place ≡ other
 one_place [] apart place other one two at there link pin = cc
 one_place (first ∷ loops) apart zero zero one two at there link pin = refl
 one_place (first ∷ loops) apart zero (suc other) one two at there link pin =
@@ -150,7 +157,8 @@ here_with link pin item (one ∷ loops) = by (is_of link pin one) refl (here_wit
   by true is rest = let its = of_pin link pin one is in (record one { nets = one.nets ++ item ∷ [] }, refl, its.0, its.1)
   by false is rest = rest
 
-stays_with : (its other : ℕ) (item : LoopNet) (loops : List ShiftLoop) (place link pin : ℕ) → HasPin loops place link pin → HasPin (with_net its other item loops) place link pin
+stays_with : (its other : ℕ) (item : LoopNet) (loops : List ShiftLoop) (place link pin : ℕ) → HasPin loops place link pin
+    → HasPin (with_net its other item loops) place link pin
 stays_with its other item [] place link pin has = let none = has.1 in cc
 stays_with its other item (one ∷ loops) zero link pin has =
     let at = has.1 in
@@ -164,7 +172,8 @@ stays_with its other item (one ∷ loops) (suc place) link pin has = by (is_of i
   by true rest = has
   by false rest = rest
 
-pub stays_all : (table : List ℕ) (actions : List Action) (loops : List ShiftLoop) (place link pin : ℕ) → HasPin loops place link pin → HasPin (all_loops table loops actions) place link pin
+pub stays_all : (table : List ℕ) (actions : List Action) (loops : List ShiftLoop) (place link pin : ℕ) → HasPin loops place link pin
+    → HasPin (all_loops table loops actions) place link pin
 stays_all table [] loops place link pin has = has
 stays_all table (action.Evaluate number ∷ actions) loops place link pin has = stays_all table actions loops place link pin has
 stays_all table (action.Send its other net ∷ actions) loops place link pin has = stays_all table actions (with_net its other (record { net = net; slot = slot_in table net }) loops) place link pin (stays_with its other (record { net = net; slot = slot_in table net }) loops place link pin has)
@@ -203,7 +212,8 @@ module _ (table : List ℕ) (P : LoopNet → Type 0) where
 pub with_there : (link pin : ℕ) (item : LoopNet) (loops : List ShiftLoop) (one : ShiftLoop) → loop_place link pin loops < length loops → one ≡ get_or loops (loop_place link pin loops) one → with_net link pin item loops ≡ set loops (loop_place link pin loops) (record one { nets = one.nets ++ item ∷ [] })
 with_there link pin item [] one inside is = absurd (omega (arith, inside))
 with_there link pin item (first ∷ loops) one inside is = by (is_of link pin first) inside is (with_there link pin item loops one) where
-  by : (own : Bool) → (if own then 0 else suc (loop_place link pin loops)) < length (first ∷ loops) → one ≡ get_or (first ∷ loops) (if own then 0 else suc (loop_place link pin loops)) one
+  by : (own : Bool) → (if own then 0 else suc (loop_place link pin loops)) < length (first ∷ loops)
+      → one ≡ get_or (first ∷ loops) (if own then 0 else suc (loop_place link pin loops)) one
       → (loop_place link pin loops < length loops → one ≡ get_or loops (loop_place link pin loops) one → with_net link pin item loops ≡ set loops (loop_place link pin loops) (record one { nets = one.nets ++ item ∷ [] }))
       → (if own then record first { nets = first.nets ++ item ∷ [] } ∷ loops else first ∷ with_net link pin item loops) ≡ set (first ∷ loops) (if own then 0 else suc (loop_place link pin loops)) (record one { nets = one.nets ++ item ∷ [] })
   by true inside is rest = ap (λ (own : ShiftLoop). record own { nets = own.nets ++ item ∷ [] } ∷ loops) (sym is)
@@ -220,6 +230,8 @@ with_new link pin item (first ∷ loops) past = by (is_of link pin first) past (
 pub place_inside : (link pin : ℕ) (loops : List ShiftLoop) → (loop_place link pin loops < length loops → ⊥) → length loops ≡ loop_place link pin loops
 place_inside link pin [] past = refl
 place_inside link pin (first ∷ loops) past = by (is_of link pin first) past (place_inside link pin loops) where
-  by : (own : Bool) → ((if own then 0 else suc (loop_place link pin loops)) < length (first ∷ loops) → ⊥) → ((loop_place link pin loops < length loops → ⊥) → length loops ≡ loop_place link pin loops) → length (first ∷ loops) ≡ (if own then 0 else suc (loop_place link pin loops))
+  by : (own : Bool) → ((if own then 0 else suc (loop_place link pin loops)) < length (first ∷ loops) → ⊥)
+      → ((loop_place link pin loops < length loops → ⊥) → length loops ≡ loop_place link pin loops)
+      → length (first ∷ loops) ≡ (if own then 0 else suc (loop_place link pin loops))
   by true past rest = absurd (past (omega arith))
   by false past rest = ap suc (rest (λ inside. past (omega (arith, inside))))

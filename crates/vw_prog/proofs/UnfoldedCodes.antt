@@ -23,14 +23,17 @@ use Rattle.vw_prog.proofs.ShiftLoops.{other_pin, same_pin}
 net_there : (nets : List ℕ) (net slot : ℕ) → net_slot nets net ≡ Some slot → slice_index_or nets slot 0 ≡ net
 net_there [] net slot is = cc
 net_there (first ∷ nets) net slot is = by (eqb first net) refl (net_slot nets net) refl is (net_there nets net) where
-  by : (same : Bool) → eqb first net ≡ same → (rest : Option ℕ) → net_slot nets net ≡ rest → (if same then Some 0 else option_map suc rest) ≡ Some slot → ((place : ℕ) → net_slot nets net ≡ Some place → slice_index_or nets place 0 ≡ net)
+  by : (same : Bool) → eqb first net ≡ same → (rest : Option ℕ) → net_slot nets net ≡ rest
+      → (if same then Some 0 else option_map suc rest) ≡ Some slot
+      → ((place : ℕ) → net_slot nets net ≡ Some place → slice_index_or nets place 0 ≡ net)
       → slice_index_or (first ∷ nets) slot 0 ≡ net
   by true test rest there at further = let zero_is : 0 ≡ slot = cc in ap (λ (place : ℕ). slice_index_or (first ∷ nets) place 0) (sym zero_is) ∙ eqb-true first net test
   by false test (Some place) there at further = let next : suc place ≡ slot = cc in ap (λ (own : ℕ). slice_index_or (first ∷ nets) own 0) (sym next) ∙ further place there
   by false test None there at further = cc
 
 -- a send finds its net behind those that were sent before it
-pub sent_there : (link pin net : ℕ) (program : List Action) (place : ℕ) → slice_get program place ≡ Some (action.Send link pin net) → slice_get (sent_over link pin program) (length (sent_over link pin (take place program))) ≡ Some net
+pub sent_there : (link pin net : ℕ) (program : List Action) (place : ℕ) → slice_get program place ≡ Some (action.Send link pin net)
+    → slice_get (sent_over link pin program) (length (sent_over link pin (take place program))) ≡ Some net
 sent_there link pin net [] place at = cc
 sent_there link pin net (one ∷ program) zero at =
     let same : one ≡ action.Send link pin net = cc in
@@ -50,7 +53,8 @@ pub length-from : (inputs : ℕ) (code : Code) (before ops : List Op) → length
 length-from inputs code before [] = refl
 length-from inputs code before (one ∷ ops) = ap suc (length-from inputs code (before ++ one ∷ []) ops)
 
-pub action_there : (inputs : ℕ) (code : Code) (before ops : List Op) (place : ℕ) (one : Op) → slice_get ops place ≡ Some one → slice_get (actions_from inputs code before ops) place ≡ Some (action_by inputs code (before ++ take place ops) one)
+pub action_there : (inputs : ℕ) (code : Code) (before ops : List Op) (place : ℕ) (one : Op) → slice_get ops place ≡ Some one
+    → slice_get (actions_from inputs code before ops) place ≡ Some (action_by inputs code (before ++ take place ops) one)
 action_there inputs code before [] place one at = cc
 action_there inputs code before (first ∷ ops) zero one at =
     let same : first ≡ one = cc in
@@ -77,7 +81,9 @@ module _ (flat : Flat) (code : Code) where
   module _ (all : List Action) (loops : AreLoops all code.loops.items) where
     -- a loop is turned by the sends over its pin
     module _ (at : ℕ) (own : ShiftLoop) (there : slice_get code.loops.items at ≡ Some own) where
-      turned : (next : Action) (one : Op) (ops : List Op) (program : List Action) → BeginsWithAction flat code next one → turns_of at ops ≡ length (sent_over own.link own.pin program) → turns_of at (one ∷ ops) ≡ length (sent_over own.link own.pin (next ∷ program))
+      turned : (next : Action) (one : Op) (ops : List Op) (program : List Action) → BeginsWithAction flat code next one
+          → turns_of at ops ≡ length (sent_over own.link own.pin program)
+          → turns_of at (one ∷ ops) ≡ length (sent_over own.link own.pin (next ∷ program))
       turned (action.Evaluate number) (op.Run first end slot) ops program begins rest = rest
       turned (action.Evaluate number) (op.Wide place) ops program begins rest = rest
       turned (action.Evaluate number) (op.Send place) ops program begins rest = absurd begins
@@ -98,7 +104,8 @@ module _ (flat : Flat) (code : Code) where
       turned (action.Send link pin net) (op.Take its other slot) ops program begins rest = absurd begins
       turned (action.Send link pin net) op.Step ops program begins rest = absurd begins
       turned (action.Send link pin net) (op.Send place) ops program begins rest = by (eqb place at) refl where
-        by : (here : Bool) → eqb place at ≡ here → (if here then suc (turns_of at ops) else turns_of at ops) ≡ length (if eqb link own.link && eqb pin own.pin then net ∷ sent_over own.link own.pin program else sent_over own.link own.pin program)
+        by : (here : Bool) → eqb place at ≡ here
+            → (if here then suc (turns_of at ops) else turns_of at ops) ≡ length (if eqb link own.link && eqb pin own.pin then net ∷ sent_over own.link own.pin program else sent_over own.link own.pin program)
         by true test =
             let same : place ≡ at = eqb-true place at test in
             let its : begins.0 ≡ own = cc (begins.1, there, same) in
@@ -109,7 +116,8 @@ module _ (flat : Flat) (code : Code) where
             true≢false (sym (eq-eqb place at (loops.apart place at begins.0 own begins.1 there (begins.2 ∙ first) (begins.3 ∙ second))) ∙ test) in
             rest ∙ sym (ap (λ (one : Bool). length (if one then net ∷ sent_over own.link own.pin program else sent_over own.link own.pin program)) (other_pin link pin own.link own.pin apart))
 
-      pub turns_are : (ops : List Op) (program : List Action) → length ops ≡ length program → Begins ops program → (made : ℕ) → turns_of at (take made ops) ≡ length (sent_over own.link own.pin (take made program))
+      pub turns_are : (ops : List Op) (program : List Action) → length ops ≡ length program → Begins ops program → (made : ℕ)
+          → turns_of at (take made ops) ≡ length (sent_over own.link own.pin (take made program))
       turns_are [] [] long begins zero = refl
       turns_are [] [] long begins (suc made) = refl
       turns_are [] (next ∷ program) long begins made = absurd (omega (arith, long))
@@ -124,7 +132,8 @@ module _ (flat : Flat) (code : Code) where
 
     -- each op stands for its action
     module _ (long : length code.ops.items ≡ length all) (begins : Begins code.ops.items all) where
-      each_is : (place : ℕ) (next : Action) (one : Op) → slice_get all place ≡ Some next → BeginsWithAction flat code next one → action_by flat.inputs code (take place code.ops.items) one ≡ next
+      each_is : (place : ℕ) (next : Action) (one : Op) → slice_get all place ≡ Some next → BeginsWithAction flat code next one
+          → action_by flat.inputs code (take place code.ops.items) one ≡ next
       each_is place (action.Evaluate number) (op.Run first end slot) at own =
           let its = own.3 in
           let back : slice_index_or code.nets.items slot 0 - flat.inputs ≡ number = omega (arith, net_there code.nets.items (flat.inputs + number) slot its.target) in
@@ -158,7 +167,8 @@ module _ (flat : Flat) (code : Code) where
           ap (λ (its : Option ShiftLoop). send_of its (turns_of loop (take place code.ops.items))) own.1
           ∙ (λ i. action.Send (own.2 i) (own.3 i) (get_or_from_slice_get (loop_nets one) (turns_of loop (take place code.ops.items)) net 0 here i))
 
-      found_is : (place : ℕ) (next : Action) (one : Op) → slice_get all place ≡ Some next → slice_get code.ops.items place ≡ Some one → action_by flat.inputs code (take place code.ops.items) one ≡ next
+      found_is : (place : ℕ) (next : Action) (one : Op) → slice_get all place ≡ Some next → slice_get code.ops.items place ≡ Some one
+          → action_by flat.inputs code (take place code.ops.items) one ≡ next
       found_is place next one at there =
           let found = begins place next at in
           let is = found.1 in
@@ -170,16 +180,22 @@ module _ (flat : Flat) (code : Code) where
 
 -- ---- programs as contracts see them
 
-pub code_there : (inputs : ℕ) (codes : List Code) (lists : List (List Action)) (node : ℕ) (code : Code) → map (unfolded inputs) codes ≡ lists → node < length lists → code ≡ get_or codes node code → (node < length codes) × (slice_index_or lists node [] ≡ unfolded inputs code)
+pub code_there : (inputs : ℕ) (codes : List Code) (lists : List (List Action)) (node : ℕ) (code : Code)
+    → map (unfolded inputs) codes ≡ lists → node < length lists → code ≡ get_or codes node code
+    → (node < length codes) × (slice_index_or lists node [] ≡ unfolded inputs code)
 code_there inputs codes lists node code are low is =
     let within : node < length codes = omega (arith, low, ap (λ (all : List (List Action)). length all) are, length-map codes (unfolded inputs)) in
     (within, ap (λ (all : List (List Action)). slice_index_or all node []) (sym are) ∙ get_or-map (unfolded inputs) codes node code [] within ∙ ap (unfolded inputs) (sym is))
 
 -- and there is an op for each number
-pub op_there : (inputs : ℕ) (codes : List Code) (lists : List (List Action)) (node number : ℕ) (code : Code) → map (unfolded inputs) codes ≡ lists → node < length lists → code ≡ get_or codes node code → number < length (slice_index_or lists node []) → number < length code.ops.items
+pub op_there : (inputs : ℕ) (codes : List Code) (lists : List (List Action)) (node number : ℕ) (code : Code)
+    → map (unfolded inputs) codes ≡ lists → node < length lists → code ≡ get_or codes node code
+    → number < length (slice_index_or lists node []) → number < length code.ops.items
 op_there inputs codes lists node number code are low is inside = omega (arith, inside, ap (λ (list : List Action). length list) (code_there inputs codes lists node code are low is).1, length-from inputs code [] code.ops.items)
 
-pub action_is : (inputs : ℕ) (code : Code) (list : List Action) (number : ℕ) (one : Op) (next : Action) → list ≡ unfolded inputs code → number < length code.ops.items → one ≡ get_or code.ops.items number one → next ≡ action_by inputs code (take number code.ops.items) one → next ≡ slice_index_or list number next
+pub action_is : (inputs : ℕ) (code : Code) (list : List Action) (number : ℕ) (one : Op) (next : Action) → list ≡ unfolded inputs code
+    → number < length code.ops.items → one ≡ get_or code.ops.items number one
+    → next ≡ action_by inputs code (take number code.ops.items) one → next ≡ slice_index_or list number next
 action_is inputs code list number one next are low is next_is =
     let there : slice_get code.ops.items number ≡ Some one = slice_get-get_or code.ops.items number one low ∙ ap Some (sym is) in
     next_is ∙ sym (get_or_from_slice_get (unfolded inputs code) number (action_by inputs code (take number code.ops.items) one) next (action_there inputs code [] code.ops.items number one there)) ∙ ap (λ (all : List Action). slice_index_or all number next) (sym are)
@@ -189,7 +205,9 @@ none_inside [] node low at = omega (arith, low)
 none_inside (code ∷ codes) zero low at = cc
 none_inside (code ∷ codes) (suc node) low at = none_inside codes node (omega (arith, low)) at
 
-pub are_programs : (planned : PlannedBoard) (inputs : ℕ) (codes : List Code) → inputs ≡ planned.ordered.flat.inputs → length codes ≡ suc planned.board.chips → ((node : ℕ) (code : Code) → slice_get codes node ≡ Some code → IsCode planned node (actions planned node) code)
+pub are_programs : (planned : PlannedBoard) (inputs : ℕ) (codes : List Code) → inputs ≡ planned.ordered.flat.inputs
+    → length codes ≡ suc planned.board.chips
+    → ((node : ℕ) (code : Code) → slice_get codes node ≡ Some code → IsCode planned node (actions planned node) code)
     → ArePrograms planned (record { lists = map (unfolded inputs) codes; codes = codes })
 are_programs planned inputs codes inputs_are count stand = record {
   count = length-map codes (unfolded inputs) ∙ count;
@@ -197,7 +215,8 @@ are_programs planned inputs codes inputs_are count stand = record {
   codes = count;
   stand = stand;
 } where
-  by : (node : ℕ) (found : Option Code) → slice_get codes node ≡ found → node < length codes → slice_index_or (map (unfolded inputs) codes) node [] ≡ actions planned node
+  by : (node : ℕ) (found : Option Code) → slice_get codes node ≡ found → node < length codes
+      → slice_index_or (map (unfolded inputs) codes) node [] ≡ actions planned node
   by node None at low = absurd (none_inside codes node low at)
   by node (Some code) at low =
       let is_code = stand node code at in

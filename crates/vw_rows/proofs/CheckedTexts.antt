@@ -21,7 +21,8 @@ not_large width text short = cond-false _ _ _ (le-ltb 1073741824 (length text) s
 long_text : (n : ℕ) → (text : List ℕ) × (length text ≡ n)
 long_text n = (replicate n 0, length-replicate n 0)
 
-pub text_too_large : (told : Told) (width : ℕ) → (told ≡ absent → ⊥) → ((bytes : List ℕ) → told ≡ held bytes → 1073741824 < length bytes) → OfText told (λ text. stimulus_rows width text ≡ Err TooLarge)
+pub text_too_large : (told : Told) (width : ℕ) → (told ≡ absent → ⊥) → ((bytes : List ℕ) → told ≡ held bytes → 1073741824 < length bytes)
+    → OfText told (λ text. stimulus_rows width text ≡ Err TooLarge)
 text_too_large told width there large =
     let text = long_text 1073741825 in
     OfText-from_cases told (λ text. stimulus_rows width text ≡ Err TooLarge) text.0 (too_large width text.0 (omega (text.1, arith))) there (λ bytes is. too_large width bytes (large bytes is))
@@ -29,7 +30,8 @@ text_too_large told width there large =
 of_text_further : (told : Told) (P Q : List ℕ → Type 0) → ((text : List ℕ) → P text → Q text) → OfText told P → OfText told Q
 of_text_further told P Q further found = (found.0, found.1, further found.0 found.2)
 
-pub fault_checked : (told : Told) (width : ℕ) (fault : StimFault) → OfText told (λ text. HasFault width text fault) → OfText told (λ text. stimulus_rows width text ≡ Err fault)
+pub fault_checked : (told : Told) (width : ℕ) (fault : StimFault) → OfText told (λ text. HasFault width text fault)
+    → OfText told (λ text. stimulus_rows width text ≡ Err fault)
 fault_checked told width fault found = of_text_further told (λ text. HasFault width text fault) (λ text. stimulus_rows width text ≡ Err fault) (λ text has. not_large width text has.short ∙ has.is) found
 
 behind_none : (said : Result (List (List Bool)) StimFault) → behind [] said ≡ said
@@ -37,7 +39,9 @@ behind_none (Ok rows) = refl
 behind_none (Err fault) = refl
 
 -- a stimulus of which nothing was given
-stands_at_start : (text : List ℕ) (stimulus : Stimulus) (clocks : ℕ) → HasRows stimulus.width text clocks → clocks ≡ stimulus.clocks → stimulus.done ≡ 0 → stimulus.at ≡ 0 → stimulus.line ≡ 1 → stimulus.owed ≡ 0 → stimulus.before ≡ replicate stimulus.width false → StandsIn stimulus text
+stands_at_start : (text : List ℕ) (stimulus : Stimulus) (clocks : ℕ) → HasRows stimulus.width text clocks → clocks ≡ stimulus.clocks
+    → stimulus.done ≡ 0 → stimulus.at ≡ 0 → stimulus.line ≡ 1 → stimulus.owed ≡ 0 → stimulus.before ≡ replicate stimulus.width false
+    → StandsIn stimulus text
 stands_at_start text stimulus clocks has same done at line owed before = record {
   rows = has.rows;
   accepted = not_large stimulus.width text has.short ∙ has.are;
@@ -50,7 +54,9 @@ stands_at_start text stimulus clocks has same done at line owed before = record 
   first = λ _. before;
 }
 
-pub rows_checked : (told : Told) (stimulus : Stimulus) (clocks : ℕ) → OfText told (λ text. HasRows stimulus.width text clocks) → clocks ≡ stimulus.clocks → stimulus.done ≡ 0 → stimulus.at ≡ 0 → stimulus.line ≡ 1 → stimulus.owed ≡ 0 → stimulus.before ≡ replicate stimulus.width false
+pub rows_checked : (told : Told) (stimulus : Stimulus) (clocks : ℕ) → OfText told (λ text. HasRows stimulus.width text clocks)
+    → clocks ≡ stimulus.clocks → stimulus.done ≡ 0 → stimulus.at ≡ 0 → stimulus.line ≡ 1 → stimulus.owed ≡ 0
+    → stimulus.before ≡ replicate stimulus.width false
     → OfText told (StandsIn stimulus)
 rows_checked told stimulus clocks found same done at line owed before =
     of_text_further told (λ text. HasRows stimulus.width text clocks) (StandsIn stimulus) (λ text has. stands_at_start text stimulus clocks has same done at line owed before) found

@@ -50,7 +50,8 @@ front_taken piece front count cut long =
 
 -- the line has ended and is counted, and the next begins
 pub begins_next : (front : List ℕ) (first : List Bool) (base start : ℕ) (total : List ℕ → Result (List (List Bool)) StimFault) (read : List ℕ) (rows : List (List Bool)) (scan : Scan) (line : LineSoFar) (adds : Adds) (new : Scan)
-    → (so : IsReadSoFar first base start total read scan rows) → IsLine (so.line ++ front) line → (added : AddsToRun (with_line scan line) adds (so.line ++ front))
+    → (so : IsReadSoFar first base start total read scan rows) → IsLine (so.line ++ front) line
+    → (added : AddsToRun (with_line scan line) adds (so.line ++ front))
     → IsLine [] new.line → new.width ≡ scan.width → new.number ≡ scan.number + 1 → new.clocks ≡ scan.clocks + rows_from_line adds
     → (next : IsReadSoFar first base start total (read ++ (front ++ 10 ∷ [])) new (rows ++ rows_by adds added.row (last_row first rows))) × (length next.line ≡ 0)
 begins_next front first base start total read rows scan line adds new so is added fresh width number clocks =
@@ -88,7 +89,8 @@ begins_next front first base start total read rows scan line adds new so is adde
 -- the same behind a piece
 pub ends_and_begins : (piece : List ℕ) (count : ℕ) (scan : Scan) (line : LineSoFar) (adds : Adds) (new : Scan) → EndsBy piece count scan.line line
     → ((whole : List ℕ) → IsLine whole line → AddsToRun (with_line scan line) adds whole)
-    → IsLine [] new.line → new.width ≡ scan.width → new.number ≡ scan.number + 1 → new.clocks ≡ scan.clocks + rows_from_line adds → IsReadFurther (take count piece) scan new
+    → IsLine [] new.line → new.width ≡ scan.width → new.number ≡ scan.number + 1 → new.clocks ≡ scan.clocks + rows_from_line adds
+    → IsReadFurther (take count piece) scan new
 ends_and_begins piece count scan line adds new ends adds_rows fresh width number clocks first base start total read rows so short =
     let is = ends.goes.line so.line so.is in
     let added = adds_rows (so.line ++ ends.front) is in
@@ -105,7 +107,8 @@ bad_in piece scan fault bad first base start total read rows so short rest =
 
 -- a line that has ended and is at fault
 pub ends_at_fault : (piece : List ℕ) (count : ℕ) (scan : Scan) (line : LineSoFar) (fault : StimFault) → EndsBy piece count scan.line line
-    → ((whole : List ℕ) → IsLine whole line → length whole < 2 ^ 63 → (before : List Bool) → within_run scan.clocks (rows_added scan.width scan.number before (line_words whole)) ≡ Err fault) → IsAtFaultWith piece scan fault
+    → ((whole : List ℕ) → IsLine whole line → length whole < 2 ^ 63 → (before : List Bool) → within_run scan.clocks (rows_added scan.width scan.number before (line_words whole)) ≡ Err fault)
+    → IsAtFaultWith piece scan fault
 ends_at_fault piece count scan line fault ends at_fault first base start total read rows so short rest =
     let front = ends.front in
     let is = ends.goes.line so.line so.is in
@@ -122,7 +125,8 @@ pub reads_nothing : (scan : Scan) → IsReadFurther [] scan scan
 reads_nothing scan first base start total read rows so short = (rows, subst (λ (bs : List ℕ). IsReadSoFar first base start total bs scan rows) (sym (append-nil read)) so)
 
 -- bytes, and others behind them
-pub reads_on : (first_ second both : List ℕ) (old mid new : Scan) → both ≡ first_ ++ second → IsReadFurther first_ old mid → IsReadFurther second mid new → IsReadFurther both old new
+pub reads_on : (first_ second both : List ℕ) (old mid new : Scan) → both ≡ first_ ++ second → IsReadFurther first_ old mid
+    → IsReadFurther second mid new → IsReadFurther both old new
 reads_on first_ second both old mid new whole one two first base start total read rows so short =
     let long : length both ≡ length first_ + length second = ap (λ (bs : List ℕ). length bs) whole ∙ length-append first_ second in
     let r = one first base start total read rows so (omega (long, short, arith)) in
@@ -130,7 +134,8 @@ reads_on first_ second both old mid new whole one two first base start total rea
     (s.0, subst (λ (bs : List ℕ). IsReadSoFar first base start total bs new s.0) (append_assoc read first_ second ∙ ap (λ (bs : List ℕ). read ++ bs) (sym whole)) s.1)
 
 -- bytes, and then a fault
-pub fault_behind : (front piece whole behind_it : List ℕ) (old mid : Scan) (fault : StimFault) → whole ≡ front ++ (piece ++ behind_it) → IsReadFurther front old mid → IsAtFaultWith piece mid fault → IsAtFaultWith whole old fault
+pub fault_behind : (front piece whole behind_it : List ℕ) (old mid : Scan) (fault : StimFault) → whole ≡ front ++ (piece ++ behind_it)
+    → IsReadFurther front old mid → IsAtFaultWith piece mid fault → IsAtFaultWith whole old fault
 fault_behind front piece whole behind_it old mid fault cut reads at_fault first base start total read rows so short rest =
     let long : length whole ≡ length front + (length piece + length behind_it) = ap (λ (bs : List ℕ). length bs) cut ∙ length-append front (piece ++ behind_it) ∙ ap (λ (n : ℕ). length front + n) (length-append piece behind_it) in
     let r = reads first base start total read rows so (omega (long, short, arith)) in
@@ -148,7 +153,8 @@ pub record IsReadPart (piece rest : List ℕ) (old new : Scan) : Type 0 where
 pub part_at_start : (piece : List ℕ) (scan : Scan) → IsReadPart piece piece scan scan
 part_at_start piece scan = record { gone = []; cut = refl; reads = reads_nothing scan }
 
-pub part_further : (piece rest after : List ℕ) (count : ℕ) (old mid new : Scan) → after ≡ drop count rest → IsReadPart piece rest old mid → IsReadFurther (take count rest) mid new → IsReadPart piece after old new
+pub part_further : (piece rest after : List ℕ) (count : ℕ) (old mid new : Scan) → after ≡ drop count rest → IsReadPart piece rest old mid
+    → IsReadFurther (take count rest) mid new → IsReadPart piece after old new
 part_further piece rest after count old mid new is part reads = record {
   gone = part.gone ++ take count rest;
   cut = part.cut ∙ ap (λ (bs : List ℕ). part.gone ++ bs) (sym (take-append-drop count rest) ∙ ap (λ (bs : List ℕ). take count rest ++ bs) (sym is)) ∙ sym (append_assoc part.gone (take count rest) after);
@@ -164,6 +170,7 @@ part_at_end piece rest old new none part =
     by [] e = refl
     by (b ∷ bs) e = absurd (omega (e, arith))
 
-pub part_at_fault : (piece rest : List ℕ) (old mid : Scan) (fault : StimFault) → IsReadPart piece rest old mid → IsAtFaultWith rest mid fault → IsAtFaultWith piece old fault
+pub part_at_fault : (piece rest : List ℕ) (old mid : Scan) (fault : StimFault) → IsReadPart piece rest old mid
+    → IsAtFaultWith rest mid fault → IsAtFaultWith piece old fault
 part_at_fault piece rest old mid fault part at_fault =
     fault_behind part.gone rest piece [] old mid fault (part.cut ∙ ap (λ (bs : List ℕ). part.gone ++ bs) (sym (append-nil rest))) part.reads at_fault

@@ -30,7 +30,8 @@ behind_none : (said : Result (List (List Bool)) StimFault) → behind [] said �
 behind_none (Ok rows) = refl
 behind_none (Err fault) = refl
 
-pub counted_at_start : (told : Told) (width : ℕ) (scan : Scan) → IsLine [] scan.line → scan.width ≡ width → scan.number ≡ 1 → scan.clocks ≡ 0 → IsCounted told width 0 scan
+pub counted_at_start : (told : Told) (width : ℕ) (scan : Scan) → IsLine [] scan.line → scan.width ≡ width → scan.number ≡ 1
+    → scan.clocks ≡ 0 → IsCounted told width 0 scan
 counted_at_start told width scan fresh wide number clocks = record {
   read = [];
   rows = [];
@@ -53,8 +54,10 @@ counted_at_start told width scan fresh wide number clocks = record {
 }
 
 -- a piece more
-pub counted_further : (told : Told) (width at count : ℕ) (scan new : Scan) (buffer piece : List ℕ) → piece ≡ take count buffer → count ≤ length buffer → at + count ≤ 1073741824
-    → ((bytes : List ℕ) → told ≡ held bytes → Fills bytes at buffer count) → (told ≡ absent → ⊥) → IsReadFurther piece scan new → new.width ≡ scan.width → IsCounted told width at scan → IsCounted told width (at + count) new
+pub counted_further : (told : Told) (width at count : ℕ) (scan new : Scan) (buffer piece : List ℕ) → piece ≡ take count buffer
+    → count ≤ length buffer → at + count ≤ 1073741824
+    → ((bytes : List ℕ) → told ≡ held bytes → Fills bytes at buffer count) → (told ≡ absent → ⊥) → IsReadFurther piece scan new
+    → new.width ≡ scan.width → IsCounted told width at scan → IsCounted told width (at + count) new
 counted_further told width at count scan new buffer piece is within limit fills there reads wide counted =
     let long : length piece ≡ count = ap (λ (bs : List ℕ). length bs) is ∙ length-take-le count buffer within in
     let r = reads (replicate width false) 0 1 (rows_in width) counted.read counted.rows counted.so_far (omega (long, counted.size, limit, arith)) in
@@ -72,14 +75,17 @@ counted_further told width at count scan new buffer piece is within limit fills 
     }
 
 -- all bytes were read
-whole_read : (told : Told) (width at : ℕ) (scan : Scan) (buffer bytes : List ℕ) (count : ℕ) → 0 < length buffer → count ≡ 0 → told ≡ held bytes → Fills bytes at buffer count → (counted : IsCounted told width at scan) → counted.read ≡ bytes
+whole_read : (told : Told) (width at : ℕ) (scan : Scan) (buffer bytes : List ℕ) (count : ℕ) → 0 < length buffer → count ≡ 0
+    → told ≡ held bytes → Fills bytes at buffer count → (counted : IsCounted told width at scan) → counted.read ≡ bytes
 whole_read told width at scan buffer bytes count room none told_is fills counted =
     whole_front counted.read buffer bytes count (counted.front bytes told_is) (subst (λ (n : ℕ). Fills bytes n buffer count) (sym counted.size) fills) room none
 
 -- the rows of the whole text
-pub rows_counted : (told : Told) (width at count clocks : ℕ) (scan : Scan) (adds : Adds) (buffer : List ℕ) → 0 < length buffer → count ≡ 0 → at ≤ 1073741824 → scan.clocks ≤ 4294967295
+pub rows_counted : (told : Told) (width at count clocks : ℕ) (scan : Scan) (adds : Adds) (buffer : List ℕ) → 0 < length buffer → count ≡ 0
+    → at ≤ 1073741824 → scan.clocks ≤ 4294967295
     → ((bytes : List ℕ) → told ≡ held bytes → Fills bytes at buffer count) → (told ≡ absent → ⊥)
-    → ((line : List ℕ) → IsLine line scan.line → AddsToRun scan adds line) → clocks ≡ scan.clocks + rows_from_line adds → IsCounted told width at scan → OfText told (λ text. HasRows width text clocks)
+    → ((line : List ℕ) → IsLine line scan.line → AddsToRun scan adds line) → clocks ≡ scan.clocks + rows_from_line adds
+    → IsCounted told width at scan → OfText told (λ text. HasRows width text clocks)
 rows_counted told width at count clocks scan adds buffer room none limit few fills there ends sum counted =
     OfText-from_cases told (λ text. HasRows width text clocks) counted.read has there
     (λ bytes told_is. subst (λ (text : List ℕ). HasRows width text clocks) (whole_read told width at scan buffer bytes count room none told_is (fills bytes told_is) counted) has)
@@ -100,7 +106,8 @@ rows_counted told width at count clocks scan adds buffer room none limit few fil
         }
 
 -- the last line of the text is at fault
-pub last_at_fault : (told : Told) (width at count : ℕ) (scan : Scan) (fault : StimFault) (buffer : List ℕ) → 0 < length buffer → count ≡ 0 → at ≤ 1073741824 → scan.clocks ≤ 4294967295
+pub last_at_fault : (told : Told) (width at count : ℕ) (scan : Scan) (fault : StimFault) (buffer : List ℕ) → 0 < length buffer → count ≡ 0
+    → at ≤ 1073741824 → scan.clocks ≤ 4294967295
     → ((bytes : List ℕ) → told ≡ held bytes → Fills bytes at buffer count) → (told ≡ absent → ⊥)
     → ((line : List ℕ) → IsLine line scan.line → length line < 2 ^ 63 → (before : List Bool) → within_run scan.clocks (rows_added scan.width scan.number before (line_words line)) ≡ Err fault)
     → IsCounted told width at scan → OfText told (λ text. HasFault width text fault)
@@ -120,8 +127,10 @@ last_at_fault told width at count scan fault buffer room none limit few fills th
         }
 
 -- a line of a piece is at fault
-pub piece_at_fault : (told : Told) (width at count : ℕ) (scan : Scan) (fault : StimFault) (buffer piece : List ℕ) → piece ≡ take count buffer → count ≤ length buffer → at + count ≤ 1073741824
-    → ((bytes : List ℕ) → told ≡ held bytes → length bytes ≤ 1073741824) → ((bytes : List ℕ) → told ≡ held bytes → Fills bytes at buffer count) → (told ≡ absent → ⊥)
+pub piece_at_fault : (told : Told) (width at count : ℕ) (scan : Scan) (fault : StimFault) (buffer piece : List ℕ)
+    → piece ≡ take count buffer → count ≤ length buffer → at + count ≤ 1073741824
+    → ((bytes : List ℕ) → told ≡ held bytes → length bytes ≤ 1073741824)
+    → ((bytes : List ℕ) → told ≡ held bytes → Fills bytes at buffer count) → (told ≡ absent → ⊥)
     → IsAtFaultWith piece scan fault → IsCounted told width at scan → OfText told (λ text. HasFault width text fault)
 piece_at_fault told width at count scan fault buffer piece is within limit short fills there at_fault counted =
     OfText-from_cases told (λ text. HasFault width text fault) (counted.read ++ (piece ++ [])) (has [] (omega (long, counted.size, limit, length-append counted.read (piece ++ []), length-append piece [], arith))) there in_bytes

@@ -24,7 +24,8 @@ pub nothing_on : (told : Told) (before : List Bool) (batch : Batch) → IsReadOn
 nothing_on told before batch = record { bytes = []; gathers = gathers_nothing before batch; read = omega arith; front = λ text is inside. refl }
 
 -- a piece stands at a place of a text
-pub piece_there : (text buffer piece : List ℕ) (from count : ℕ) → Fills text from buffer count → piece ≡ take count buffer → (piece ++ drop (from + count) text ≡ drop from text) × (length piece ≡ count)
+pub piece_there : (text buffer piece : List ℕ) (from count : ℕ) → Fills text from buffer count → piece ≡ take count buffer
+    → (piece ++ drop (from + count) text ≡ drop from text) × (length piece ≡ count)
 piece_there text buffer piece from count fills is =
     let there : piece ≡ take count (drop from text) = is ∙ fills.front in
     let size : length piece ≡ count = ap (λ (bs : List ℕ). length bs) there ∙ length-take-le count (drop from text) (omega (fills.within, length-drop from text, arith)) in (
@@ -35,7 +36,8 @@ piece_there text buffer piece from count fills is =
     )
 
 -- what stands behind the front of a piece
-behind_front : (text piece gone rest : List ℕ) (from count : ℕ) → piece ++ drop (from + count) text ≡ drop from text → piece ≡ gone ++ rest → gone ++ drop (from + length gone) text ≡ drop from text
+behind_front : (text piece gone rest : List ℕ) (from count : ℕ) → piece ++ drop (from + count) text ≡ drop from text → piece ≡ gone ++ rest
+    → gone ++ drop (from + length gone) text ≡ drop from text
 behind_front text piece gone rest from count there cut =
     let whole : gone ++ (rest ++ drop (from + count) text) ≡ drop from text = sym (append_assoc gone rest (drop (from + count) text)) ∙ ap (λ (bs : List ℕ). bs ++ drop (from + count) text) (sym cut) ∙ there in
     let tail : drop (from + length gone) text ≡ rest ++ drop (from + count) text =
@@ -43,7 +45,8 @@ behind_front text piece gone rest from count there cut =
     ap (λ (bs : List ℕ). gone ++ bs) tail ∙ whole
 
 -- a piece more
-pub read_further : (told : Told) (before : List Bool) (old mid new : Batch) (buffer piece : List ℕ) (count : ℕ) → ((text : List ℕ) → told ≡ held text → Fills text mid.read buffer count) → piece ≡ take count buffer
+pub read_further : (told : Told) (before : List Bool) (old mid new : Batch) (buffer piece : List ℕ) (count : ℕ)
+    → ((text : List ℕ) → told ≡ held text → Fills text mid.read buffer count) → piece ≡ take count buffer
     → IsReadOn told before old mid → GathersFront before piece mid new → IsReadOn told before old new
 read_further told before old mid new buffer piece count fills is so_far front = record {
   bytes = so_far.bytes ++ front.gone;
@@ -63,15 +66,18 @@ none_left text buffer from count fills room none = drop_all from text (no_less f
     no_less m n not_less = omega (arith, not_less)
 
 -- where bytes have rows and no fault in them, these are fewer than are wanted
-few_found : (wanted number : ℕ) (bytes : List ℕ) (fault : StimFault) (said : Result (List (List Bool)) StimFault) (all : List (List Bool)) → IsFoundIn wanted number bytes fault said → said ≡ Ok all → length all < wanted
+few_found : (wanted number : ℕ) (bytes : List ℕ) (fault : StimFault) (said : Result (List (List Bool)) StimFault) (all : List (List Bool))
+    → IsFoundIn wanted number bytes fault said → said ≡ Ok all → length all < wanted
 few_found wanted number bytes fault (Err other) all found is = absurd (cc)
 few_found wanted number bytes fault (Ok rows) all found is =
     let same : rows ≡ all = cc in
     omega (found.0, ap (λ (rs : List (List Bool)). length rs) same, arith)
 
 -- the text has ended
-pub finish_gathers : (told : Told) (before : List Bool) (old mid new : Batch) (buffer : List ℕ) (count : ℕ) (result : Result (Unit {0}) StimFault) → 0 < length buffer → count ≡ 0 → mid.wanted ≡ old.wanted → mid.read ≤ 1073741824
-    → ((text : List ℕ) → told ≡ held text → Fills text mid.read buffer count) → IsReadOn told before old mid → EndsTextOf before mid new result → GathersOf told before old new result
+pub finish_gathers : (told : Told) (before : List Bool) (old mid new : Batch) (buffer : List ℕ) (count : ℕ) (result : Result (Unit {0}) StimFault)
+    → 0 < length buffer → count ≡ 0 → mid.wanted ≡ old.wanted → mid.read ≤ 1073741824
+    → ((text : List ℕ) → told ≡ held text → Fills text mid.read buffer count) → IsReadOn told before old mid
+    → EndsTextOf before mid new result → GathersOf told before old new result
 finish_gathers told before old mid new buffer count (Ok u) room none wanted limit fills so_far ends = λ base start total g.
     let bytes = so_far.bytes in
     let r = ends base start old.read total bytes (so_far.gathers base start old.read total [] g (omega (so_far.read, limit, arith))) in (
@@ -92,8 +98,10 @@ finish_gathers told before old mid new buffer count (Err fault) room none wanted
     )
 
 -- a piece is at fault
-pub take_fails : (told : Told) (before : List Bool) (old mid : Batch) (buffer piece : List ℕ) (count : ℕ) (fault : StimFault) → mid.read + count ≤ 1073741824 → count ≤ length buffer
-    → ((text : List ℕ) → told ≡ held text → Fills text mid.read buffer count) → piece ≡ take count buffer → IsReadOn told before old mid → FailsWith before piece mid fault
+pub take_fails : (told : Told) (before : List Bool) (old mid : Batch) (buffer piece : List ℕ) (count : ℕ) (fault : StimFault)
+    → mid.read + count ≤ 1073741824 → count ≤ length buffer
+    → ((text : List ℕ) → told ≡ held text → Fills text mid.read buffer count) → piece ≡ take count buffer → IsReadOn told before old mid
+    → FailsWith before piece mid fault
     → (base start : ℕ) (total : List ℕ → Result (List (List Bool)) StimFault) → IsGathered before base start old.read total [] old
     → ((bytes : List ℕ) × IsFoundIn old.wanted start bytes fault (total bytes))
     × ((text : List ℕ) → told ≡ held text → old.read ≤ length text → (all : List (List Bool)) → total (drop old.read text) ≡ Ok all → length all < old.wanted)
@@ -112,7 +120,8 @@ take_fails told before old mid buffer piece count fault limit within fills is so
     )
 
 -- as many rows as are wanted
-pub settled_gathers : (told : Told) (before : List Bool) (old mid : Batch) → IsReadOn told before old mid → mid.at ≡ mid.read → mid.read ≤ 1073741824 → GathersOf told before old mid (Ok tt)
+pub settled_gathers : (told : Told) (before : List Bool) (old mid : Batch) → IsReadOn told before old mid → mid.at ≡ mid.read
+    → mid.read ≤ 1073741824 → GathersOf told before old mid (Ok tt)
 settled_gathers told before old mid so_far settled limit base start total g =
     let bytes = so_far.bytes in
     let gathered = so_far.gathers base start old.read total [] g (omega (so_far.read, limit, arith)) in
@@ -147,7 +156,8 @@ settled_gathers told before old mid so_far settled limit base start total g =
 abbrev pub still_to_read : Batch → ℕ
 still_to_read batch = cond (nat_lt (length batch.rows) batch.wanted) (1073741825 - batch.read) 0
 
-pub less_to_read : (old new : Batch) → length old.rows < old.wanted → old.read ≤ 1073741824 → (length new.rows < new.wanted → old.read < new.read) → still_to_read new < still_to_read old
+pub less_to_read : (old new : Batch) → length old.rows < old.wanted → old.read ≤ 1073741824
+    → (length new.rows < new.wanted → old.read < new.read) → still_to_read new < still_to_read old
 less_to_read old new missing limit further = by (nat_lt (length new.rows) new.wanted) refl
   where
     was : still_to_read old ≡ 1073741825 - old.read
@@ -158,6 +168,7 @@ less_to_read old new missing limit further = by (nat_lt (length new.rows) new.wa
     by false e = omega (was, limit, arith)
 
 -- a piece of which all was read, where rows are missing still
-pub piece_read : (before : List Bool) (piece : List ℕ) (old new : Batch) → 0 < length piece → GathersFront before piece old new → length new.rows < new.wanted → old.read < new.read
+pub piece_read : (before : List Bool) (piece : List ℕ) (old new : Batch) → 0 < length piece → GathersFront before piece old new
+    → length new.rows < new.wanted → old.read < new.read
 piece_read before piece old new some front missing =
     omega (some, front.read, ap (λ (bs : List ℕ). length bs) (front.cut ∙ ap (λ (bs : List ℕ). front.gone ++ bs) (front.whole missing) ∙ append-nil front.gone), arith)

@@ -40,5 +40,6 @@ copy_given before row rows new owed some copy pushed =
     ∙ ap (λ (n : ℕ). rows ++ replicate n row) one ∙ ap (λ (r : List Bool). rows ++ replicate owed r) copy
 
 -- the last of some rows and of copies of it
-pub last_row-copies : (before : List Bool) (rows : List (List Bool)) (owed : ℕ) → last_row before (rows ++ replicate owed (last_row before rows)) ≡ last_row before rows
+pub last_row-copies : (before : List Bool) (rows : List (List Bool)) (owed : ℕ)
+    → last_row before (rows ++ replicate owed (last_row before rows)) ≡ last_row before rows
 last_row-copies before rows owed = last_row-append before rows (replicate owed (last_row before rows)) ∙ last_row-same owed (last_row before rows)

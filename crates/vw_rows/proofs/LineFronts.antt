@@ -32,7 +32,8 @@ onto : (b : ℕ) (lines : List (List ℕ)) → (m : List ℕ) × (others : List 
 onto b [] = ([], [], refl)
 onto b (line ∷ lines) = (line, lines, refl)
 
-pub line_begins : (front rest : List ℕ) → IsUnended front → 0 < length front → (m : List ℕ) × (others : List (List ℕ)) × (text_lines (front ++ rest) ≡ (front ++ m) ∷ others)
+pub line_begins : (front rest : List ℕ) → IsUnended front → 0 < length front
+    → (m : List ℕ) × (others : List (List ℕ)) × (text_lines (front ++ rest) ≡ (front ++ m) ∷ others)
 line_begins [] rest unended some = absurd (omega (some, arith))
 line_begins (b ∷ []) rest unended some =
     let r = onto b (text_lines rest) in
@@ -42,7 +43,8 @@ line_begins (b ∷ c ∷ cs) rest unended some =
     (r.0, r.1, rw (unended 0 0 (omega arith)) (ap (onto_first b) r.2))
 
 -- a line with a front for which no words do
-pub begins_bad : (front rest : List ℕ) → IsUnended front → 0 < length front → ((more : List ℕ) → AreBad (line_words (front ++ more))) → BeginsBad (front ++ rest)
+pub begins_bad : (front rest : List ℕ) → IsUnended front → 0 < length front → ((more : List ℕ) → AreBad (line_words (front ++ more)))
+    → BeginsBad (front ++ rest)
 begins_bad front rest unended some bad =
     let r = line_begins front rest unended some in
     record { first = front ++ r.0; others = r.1; cut = r.2; bad = bad r.0 }
@@ -56,7 +58,8 @@ uncommented b more other =
     rw (ne_eqb b 35 other) (ap (λ n. take n (b ∷ more)) one)
 
 -- the words of a line with a byte more, where what was read is these words and the front of a further one
-words_further : (done : List (List ℕ)) (part line : List ℕ) (b : ℕ) → b ≢ 35 → ((more : List ℕ) → line_words (line ++ more) ≡ done ++ words_of (part ++ without_comment more))
+words_further : (done : List (List ℕ)) (part line : List ℕ) (b : ℕ) → b ≢ 35
+    → ((more : List ℕ) → line_words (line ++ more) ≡ done ++ words_of (part ++ without_comment more))
     → (more : List ℕ) → line_words ((line ++ b ∷ []) ++ more) ≡ done ++ words_of (part ++ b ∷ without_comment more)
 words_further done part line b other words more =
     ap line_words (append_assoc line (b ∷ []) more) ∙ words (b ∷ more) ∙ ap (λ (rest : List ℕ). done ++ words_of (part ++ rest)) (uncommented b more other)
@@ -72,7 +75,8 @@ row_longer (Number n) b row = omega arith
 row_longer (Times n) b row = omega arith
 
 -- a byte of a word
-pub by_solid : (old new : LineSoFar) (b : ℕ) (line : List ℕ) → GoesOn old.said b (Some new.said) → b ≢ 35 → b ≢ 10 → is_blank b ≡ false → old.commented ≡ false → new.commented ≡ false
+pub by_solid : (old new : LineSoFar) (b : ℕ) (line : List ℕ) → GoesOn old.said b (Some new.said) → b ≢ 35 → b ≢ 10 → is_blank b ≡ false
+    → old.commented ≡ false → new.commented ≡ false
     → (is : IsLine line old) → (length (row_with new.said b is.row) ≤ new.kept → new.bits.items ≡ row_with new.said b is.row) → IsLine (line ++ b ∷ []) new
 by_solid old new b line steps no_comment inside nonblank plain still is bits =
     let words = words_further is.done is.part line b no_comment (is.further plain) in
@@ -91,7 +95,8 @@ by_solid old new b line steps no_comment inside nonblank plain still is bits =
     }
 
 -- a blank
-pub by_blank : (old new : LineSoFar) (b : ℕ) (line : List ℕ) → EndsWord old.said (Some new.said) → b ≢ 35 → b ≢ 10 → is_blank b ≡ true → old.commented ≡ false → new.commented ≡ false
+pub by_blank : (old new : LineSoFar) (b : ℕ) (line : List ℕ) → EndsWord old.said (Some new.said) → b ≢ 35 → b ≢ 10 → is_blank b ≡ true
+    → old.commented ≡ false → new.commented ≡ false
     → (is : IsLine line old) → (length is.row ≤ new.kept → new.bits.items ≡ is.row) → IsLine (line ++ b ∷ []) new
 by_blank old new b line steps no_comment inside blank plain still is bits =
     let words : (more : List ℕ) → line_words ((line ++ b ∷ []) ++ more) ≡ (is.done ++ words_of is.part) ++ words_of (without_comment more) =
@@ -113,13 +118,15 @@ by_blank old new b line steps no_comment inside blank plain still is bits =
     }
 
 -- no line begins so
-pub bad_solid : (old : LineSoFar) (b : ℕ) (line rest : List ℕ) → GoesOn old.said b None → b ≢ 35 → b ≢ 10 → is_blank b ≡ false → old.commented ≡ false → IsLine line old → BeginsBad (line ++ b ∷ rest)
+pub bad_solid : (old : LineSoFar) (b : ℕ) (line rest : List ℕ) → GoesOn old.said b None → b ≢ 35 → b ≢ 10 → is_blank b ≡ false
+    → old.commented ≡ false → IsLine line old → BeginsBad (line ++ b ∷ rest)
 bad_solid old b line rest steps no_comment inside nonblank plain is =
     subst BeginsBad (append_assoc line (b ∷ []) rest)
     (begins_bad (line ++ b ∷ []) rest (unended_both line (b ∷ []) is.unended (unended_one b inside)) (omega (length-append line (b ∷ []), arith))
     (λ more. subst AreBad (sym (words_further is.done is.part line b no_comment (is.further plain) more)) (steps is.done is.part is.row is.said is.solid nonblank (without_comment more))))
 
-pub bad_blank : (old : LineSoFar) (b : ℕ) (line rest : List ℕ) → EndsWord old.said None → b ≢ 35 → b ≢ 10 → is_blank b ≡ true → old.commented ≡ false → IsLine line old → BeginsBad (line ++ b ∷ rest)
+pub bad_blank : (old : LineSoFar) (b : ℕ) (line rest : List ℕ) → EndsWord old.said None → b ≢ 35 → b ≢ 10 → is_blank b ≡ true
+    → old.commented ≡ false → IsLine line old → BeginsBad (line ++ b ∷ rest)
 bad_blank old b line rest steps no_comment inside blank plain is =
     subst BeginsBad (append_assoc line (b ∷ []) rest)
     (begins_bad (line ++ b ∷ []) rest (unended_both line (b ∷ []) is.unended (unended_one b inside)) (omega (length-append line (b ∷ []), arith))
@@ -147,7 +154,8 @@ nothing_read read said bits plain = record {
 }
 
 -- a comment begins with the bytes behind the line, or has begun
-pub by_comment : (old new : LineSoFar) (line bytes : List ℕ) → new.said ≡ old.said → new.bits.items ≡ old.bits.items → new.kept ≡ old.kept → new.commented ≡ true → IsUnended bytes
+pub by_comment : (old new : LineSoFar) (line bytes : List ℕ) → new.said ≡ old.said → new.bits.items ≡ old.bits.items → new.kept ≡ old.kept
+    → new.commented ≡ true → IsUnended bytes
     → ((more : List ℕ) → line_words (line ++ (bytes ++ more)) ≡ line_words line) → IsLine line old → IsLine (line ++ bytes) new
 by_comment old new line bytes said bits kept closed unended same is = record {
   done = is.done;
@@ -166,13 +174,15 @@ by_comment old new line bytes said bits kept closed unended same is = record {
 }
 
 -- a `#` behind the line
-pub comment_behind : (old : LineSoFar) (line bytes : List ℕ) → old.commented ≡ false → IsLine line old → (more : List ℕ) → line_words (line ++ ((35 ∷ bytes) ++ more)) ≡ line_words line
+pub comment_behind : (old : LineSoFar) (line bytes : List ℕ) → old.commented ≡ false → IsLine line old → (more : List ℕ)
+    → line_words (line ++ ((35 ∷ bytes) ++ more)) ≡ line_words line
 comment_behind old line bytes plain is more = is.further plain (35 ∷ (bytes ++ more)) ∙ ap (λ (ws : List ℕ). is.done ++ words_of ws) (append-nil is.part) ∙ sym is.whole
 
 pub goes_nowhere : (read : LineSoFar) → GoesOnBy [] read read
 goes_nowhere read = record { line = λ line is. subst (λ (l : List ℕ). IsLine l read) (sym (append-nil line)) is; kept = refl }
 
-pub goes_further : (old mid new : LineSoFar) (first second both : List ℕ) → both ≡ first ++ second → GoesOnBy first old mid → GoesOnBy second mid new → GoesOnBy both old new
+pub goes_further : (old mid new : LineSoFar) (first second both : List ℕ) → both ≡ first ++ second → GoesOnBy first old mid
+    → GoesOnBy second mid new → GoesOnBy both old new
 goes_further old mid new first second both whole one two = record {
   line = λ line is. subst (λ (l : List ℕ). IsLine l new) (append_assoc line first second ∙ ap (λ (bs : List ℕ). line ++ bs) (sym whole)) (two.line (line ++ first) (one.line line is));
   kept = two.kept ∙ one.kept;
@@ -212,7 +222,8 @@ pub byte_taken : (old : LineSoFar) (said : Said) (bits : Vec Bool) (b : ℕ) →
     → bits.items ≡ bits_kept old.kept said (b ∷ []) old.bits.items → GoesOnBy (b ∷ []) old (with_said old said bits)
 byte_taken old said bits b takes no_comment inside plain same = by (is_blank b) refl takes
   where
-    by : (blank : Bool) → is_blank b ≡ blank → MatchBool blank (EndsWord old.said (Some said)) (GoesOn old.said b (Some said)) → GoesOnBy (b ∷ []) old (with_said old said bits)
+    by : (blank : Bool) → is_blank b ≡ blank → MatchBool blank (EndsWord old.said (Some said)) (GoesOn old.said b (Some said))
+        → GoesOnBy (b ∷ []) old (with_said old said bits)
     by true blank steps = record {
       line = λ line is. by_blank old (with_said old said bits) b line steps no_comment inside blank plain plain is
           (λ short. kept_blank said b old.kept is.row old.bits.items bits.items _ (steps is.done is.part is.row is.said is.solid) same is.bits short);
@@ -224,15 +235,18 @@ byte_taken old said bits b takes no_comment inside plain same = by (is_blank b) 
       kept = refl;
     }
 
-pub byte_bad : (old : LineSoFar) (b number : ℕ) → TakesByte old.said b None → b ≢ 35 → b ≢ 10 → old.commented ≡ false → IsBadBehind (b ∷ []) number old (BadLine number)
+pub byte_bad : (old : LineSoFar) (b number : ℕ) → TakesByte old.said b None → b ≢ 35 → b ≢ 10 → old.commented ≡ false
+    → IsBadBehind (b ∷ []) number old (BadLine number)
 byte_bad old b number takes no_comment inside plain = by (is_blank b) refl takes
   where
-    by : (blank : Bool) → is_blank b ≡ blank → MatchBool blank (EndsWord old.said None) (GoesOn old.said b None) → IsBadBehind (b ∷ []) number old (BadLine number)
+    by : (blank : Bool) → is_blank b ≡ blank → MatchBool blank (EndsWord old.said None) (GoesOn old.said b None)
+        → IsBadBehind (b ∷ []) number old (BadLine number)
     by true blank steps = record { is = refl; line = λ line is rest. bad_blank old b line rest steps no_comment inside blank plain is }
     by false nonblank steps = record { is = refl; line = λ line is rest. bad_solid old b line rest steps no_comment inside nonblank plain is }
 
 -- a front that is taken, and then bytes with which the line is bad
-pub bad_further : (old mid : LineSoFar) (front bytes behind piece : List ℕ) (number : ℕ) (fault : StimFault) → piece ≡ front ++ (bytes ++ behind) → GoesOnBy front old mid → IsBadBehind bytes number mid fault → IsBadBehind piece number old fault
+pub bad_further : (old mid : LineSoFar) (front bytes behind piece : List ℕ) (number : ℕ) (fault : StimFault)
+    → piece ≡ front ++ (bytes ++ behind) → GoesOnBy front old mid → IsBadBehind bytes number mid fault → IsBadBehind piece number old fault
 bad_further old mid front bytes behind piece number fault cut goes bad = record {
   is = bad.is;
   line = λ line is rest.
@@ -269,8 +283,10 @@ bits_solid (b ∷ bs) are =
     (All-cons (λ b. is_blank b ≡ false) b bs here.0 rest.0, All-cons (λ b. (b == 10) ≡ false) b bs here.1 rest.1)
 
 -- a word of bits that begins or goes on with further bits
-said_run : (said : Said) (before longer : ℕ) (done : List (List ℕ)) (part bytes : List ℕ) (row : List Bool) → bits_said said ≡ Some before → IsSaid said done part row
-    → list_all bit bytes ≡ true → 0 < length bytes → longer ≡ counted_to_limit (before + length bytes) → IsSaid (Bits longer) done (part ++ bytes) (row ++ map (λ b. b == 49) bytes)
+said_run : (said : Said) (before longer : ℕ) (done : List (List ℕ)) (part bytes : List ℕ) (row : List Bool) → bits_said said ≡ Some before
+    → IsSaid said done part row
+    → list_all bit bytes ≡ true → 0 < length bytes → longer ≡ counted_to_limit (before + length bytes)
+    → IsSaid (Bits longer) done (part ++ bytes) (row ++ map (λ b. b == 49) bytes)
 said_run Nothing before longer done part bytes row is said are some long =
     let zero_ : before ≡ 0 = (let e : Some 0 ≡ Some before = is in cc) in
     let none = said.1 in
@@ -295,7 +311,8 @@ said_run Hold before longer done part bytes row is said are some long = absurd (
 said_run (Number n) before longer done part bytes row is said are some long = absurd (cc)
 said_run (Times n) before longer done part bytes row is said are some long = absurd (cc)
 
-pub run_taken : (old : LineSoFar) (bits : Vec Bool) (before longer : ℕ) (bytes : List ℕ) → bits_said old.said ≡ Some before → longer ≡ counted_to_limit (before + length bytes) → list_all bit bytes ≡ true → 0 < length bytes
+pub run_taken : (old : LineSoFar) (bits : Vec Bool) (before longer : ℕ) (bytes : List ℕ) → bits_said old.said ≡ Some before
+    → longer ≡ counted_to_limit (before + length bytes) → list_all bit bytes ≡ true → 0 < length bytes
     → bits.items ≡ bits_kept old.kept (Bits longer) bytes old.bits.items → old.commented ≡ false → GoesOnBy bytes old (with_said old (Bits longer) bits)
 run_taken old bits before longer bytes so_far long are some same plain = record { line = goes; kept = refl }
   where
@@ -326,7 +343,8 @@ run_taken old bits before longer bytes so_far long are some same plain = record 
 -- ---- the front of a piece, and the end of the line in it
 
 -- a front that is taken at once, and one behind it
-pub fronts_joined : (piece : List ℕ) (count further : ℕ) (old mid new : LineSoFar) → GoesOnByFront piece count old mid → GoesOnByFront (drop count piece) further mid new → GoesOnByFront piece (count + further) old new
+pub fronts_joined : (piece : List ℕ) (count further : ℕ) (old mid new : LineSoFar) → GoesOnByFront piece count old mid
+    → GoesOnByFront (drop count piece) further mid new → GoesOnByFront piece (count + further) old new
 fronts_joined piece count further old mid new one two = record {
   within = omega (one.within, two.within, length-drop count piece, arith);
   front = goes_further old mid new (take count piece) (take further (drop count piece)) (take (count + further) piece) (take-add count further piece) one.front two.front;
@@ -357,7 +375,8 @@ pub record HasEndAt (piece : List ℕ) (end : ℕ) : Type 0 where
   pub within : end < length piece
 
 -- the line ends at a place of a piece, of which it goes on by the front
-pub ends_at : (piece : List ℕ) (end count : ℕ) (old new : LineSoFar) → HasEndAt piece end → count ≡ end + 1 → GoesOnBy (take end piece) old new → EndsBy piece count old new
+pub ends_at : (piece : List ℕ) (end count : ℕ) (old new : LineSoFar) → HasEndAt piece end → count ≡ end + 1
+    → GoesOnBy (take end piece) old new → EndsBy piece count old new
 ends_at piece end count old new at long goes = record {
   front = take end piece;
   cut = subst (λ (n : ℕ). piece ≡ take end piece ++ 10 ∷ drop n piece) (sym long) at.cut;
@@ -390,7 +409,8 @@ comment_taken piece count true read closed ends =
 comment_taken piece count false read closed ends = record { long = ends.0; goes = in_comment read piece closed ends.1 }
 
 -- the bytes before the end begin with the `#`
-comment_front : (rest behind : List ℕ) (end : ℕ) (read : LineSoFar) → rest ≡ 35 ∷ behind → read.commented ≡ false → IsEndOf rest end → GoesOnBy (take end rest) read (with_comment read)
+comment_front : (rest behind : List ℕ) (end : ℕ) (read : LineSoFar) → rest ≡ 35 ∷ behind → read.commented ≡ false → IsEndOf rest end
+    → GoesOnBy (take end rest) read (with_comment read)
 comment_front rest behind zero read is plain at = absurd (wrong (sym is ∙ at.cut))
   where
     wrong : ◌≡◌ {A = List ℕ} (35 ∷ behind) (10 ∷ drop (0 + 1) rest) → ⊥
@@ -400,7 +420,8 @@ comment_front rest behind (suc end) read is plain at =
     subst (λ (bs : List ℕ). GoesOnBy bs read (with_comment read)) (sym same) (into_comment read (take end behind) plain (subst IsUnended same at.before))
 
 -- a piece in which a comment begins
-pub comment_begun : (piece : List ℕ) (words count : ℕ) (ended : Bool) (old mid : LineSoFar) → GoesOnByFront piece words old mid → words < length piece → slice_index piece words ≡ 35 → EndsBehind piece words count ended
+pub comment_begun : (piece : List ℕ) (words count : ℕ) (ended : Bool) (old mid : LineSoFar) → GoesOnByFront piece words old mid
+    → words < length piece → slice_index piece words ≡ 35 → EndsBehind piece words count ended
     → MatchBool ended (EndsBy piece count old (with_comment mid)) (TakesAll piece count old (with_comment mid))
 comment_begun piece words count true old mid front within hash ends =
     let at = ends.2 in

@@ -27,8 +27,10 @@ accepted_short width text rows is = by (nat_lt 1073741824 (length text)) refl
     by false e = ltb-false 1073741824 (length text) e
 
 -- a batch of which nothing was gathered, but for copies that are owed
-pub gathered_at_start : (stimulus : Stimulus) (old new : Batch) → IsLine [] old.scan.line → old.scan.width ≡ stimulus.width → old.scan.number ≡ stimulus.line → old.scan.clocks ≡ stimulus.done + stimulus.owed → old.at ≡ stimulus.at → old.read ≡ stimulus.at
-    → old.rows ≡ [] → old.owed ≡ stimulus.owed → length stimulus.before ≡ stimulus.width → GivesCopies stimulus.before old new → IsGathered stimulus.before stimulus.done stimulus.line stimulus.at (rows_left stimulus) [] new
+pub gathered_at_start : (stimulus : Stimulus) (old new : Batch) → IsLine [] old.scan.line → old.scan.width ≡ stimulus.width
+    → old.scan.number ≡ stimulus.line → old.scan.clocks ≡ stimulus.done + stimulus.owed → old.at ≡ stimulus.at → old.read ≡ stimulus.at
+    → old.rows ≡ [] → old.owed ≡ stimulus.owed → length stimulus.before ≡ stimulus.width → GivesCopies stimulus.before old new
+    → IsGathered stimulus.before stimulus.done stimulus.line stimulus.at (rows_left stimulus) [] new
 gathered_at_start stimulus old new fresh width number clocks at read none owed wide gives =
     let before = stimulus.before in
     let copies = replicate stimulus.owed before in
@@ -60,18 +62,22 @@ gathered_at_start stimulus old new fresh width number clocks at read none owed w
     }
 
 -- how many rows are left
-pub count_left : (stimulus : Stimulus) (text : List ℕ) → (stands : StandsIn stimulus text) → length (drop stimulus.done stands.rows) ≡ stimulus.clocks - stimulus.done
+pub count_left : (stimulus : Stimulus) (text : List ℕ) → (stands : StandsIn stimulus text)
+    → length (drop stimulus.done stands.rows) ≡ stimulus.clocks - stimulus.done
 count_left stimulus text stands = length-drop stimulus.done stands.rows ∙ ap (λ (n : ℕ). n - stimulus.done) stands.clocks
 
 -- rows that are the front of others
-front_of : (rows all : List (List Bool)) (said : Result (List (List Bool)) StimFault) → behind rows said ≡ Ok all → (rows ≡ take (length rows) all) × (said ≡ Ok (drop (length rows) all))
+front_of : (rows all : List (List Bool)) (said : Result (List (List Bool)) StimFault) → behind rows said ≡ Ok all
+    → (rows ≡ take (length rows) all) × (said ≡ Ok (drop (length rows) all))
 front_of rows all (Ok more) is =
     let whole : rows ++ more ≡ all = (let e : ◌≡◌ {A = Result (List (List Bool)) StimFault} (Ok (rows ++ more)) (Ok all) = is in cc) in
     (sym (ap (take (length rows)) (sym whole) ∙ take_at rows more (length rows) refl), ap Ok (sym (ap (drop (length rows)) (sym whole) ∙ drop_at rows more (length rows) refl)))
 front_of rows all (Err fault) is = absurd (let e : ◌≡◌ {A = Result (List (List Bool)) StimFault} (Err fault) (Ok all) = is in cc)
 
 -- what stands behind the rows of a batch
-rows_behind : (stimulus : Stimulus) (text : List ℕ) (batch : Batch) → (stands : StandsIn stimulus text) → (at : IsAtLine stimulus.before stimulus.line stimulus.at (rows_left stimulus) (drop stimulus.at text) batch) → (last : List Bool) → last ≡ last_row stimulus.before batch.rows
+rows_behind : (stimulus : Stimulus) (text : List ℕ) (batch : Batch) → (stands : StandsIn stimulus text)
+    → (at : IsAtLine stimulus.before stimulus.line stimulus.at (rows_left stimulus) (drop stimulus.at text) batch) → (last : List Bool)
+    → last ≡ last_row stimulus.before batch.rows
     → behind batch.rows (behind (replicate batch.owed last) (rows_of_lines batch.scan.width batch.scan.number batch.scan.clocks last (text_lines (drop at.at (drop stimulus.at text))))) ≡ Ok (drop stimulus.done stands.rows)
 rows_behind stimulus text batch stands at last is =
     let before = stimulus.before in
@@ -83,7 +89,9 @@ rows_behind stimulus text batch stands at last is =
     ∙ sym at.left ∙ stands.left
 
 -- the rows of a batch are the next ones
-pub rows_next : (told : Told) (stimulus : Stimulus) (text : List ℕ) (all : List (List Bool)) (batch : Batch) (wanted most : ℕ) → told ≡ held text → StandsIn stimulus text → stimulus_rows stimulus.width text ≡ Ok all → wanted ≡ min most (stimulus.clocks - stimulus.done) → IsNext told wanted stimulus batch
+pub rows_next : (told : Told) (stimulus : Stimulus) (text : List ℕ) (all : List (List Bool)) (batch : Batch) (wanted most : ℕ)
+    → told ≡ held text → StandsIn stimulus text → stimulus_rows stimulus.width text ≡ Ok all
+    → wanted ≡ min most (stimulus.clocks - stimulus.done) → IsNext told wanted stimulus batch
     → batch.rows ≡ take most (drop stimulus.done all)
 rows_next told stimulus text all batch wanted most told_is stands given count next =
     let at = next.stands text told_is in
@@ -94,8 +102,10 @@ rows_next told stimulus text all batch wanted most told_is stands given count ne
     front.0 ∙ ap (λ (n : ℕ). take n rest) long ∙ take_min most rest ∙ ap (λ (rows : List (List Bool)). take most (drop stimulus.done rows)) same
 
 -- the stimulus behind a batch
-pub stands_behind : (told : Told) (stimulus new : Stimulus) (text : List ℕ) (batch : Batch) (wanted : ℕ) → told ≡ held text → StandsIn stimulus text → IsNext told wanted stimulus batch → batch.scan.width ≡ stimulus.width
-    → new.width ≡ stimulus.width → new.clocks ≡ stimulus.clocks → new.done ≡ stimulus.done + wanted → new.at ≡ batch.at → new.line ≡ batch.scan.number → new.before ≡ last_row stimulus.before batch.rows → new.owed ≡ batch.owed → StandsIn new text
+pub stands_behind : (told : Told) (stimulus new : Stimulus) (text : List ℕ) (batch : Batch) (wanted : ℕ) → told ≡ held text
+    → StandsIn stimulus text → IsNext told wanted stimulus batch → batch.scan.width ≡ stimulus.width
+    → new.width ≡ stimulus.width → new.clocks ≡ stimulus.clocks → new.done ≡ stimulus.done + wanted → new.at ≡ batch.at
+    → new.line ≡ batch.scan.number → new.before ≡ last_row stimulus.before batch.rows → new.owed ≡ batch.owed → StandsIn new text
 stands_behind told stimulus new text batch wanted told_is stands next wide width clocks done at line before owed =
     let there = next.stands text told_is in
     let rows = batch.rows in
@@ -130,7 +140,9 @@ stands_behind told stimulus new text batch wanted told_is stands next wide width
     by (b ∷ bs) e = absurd (omega (e, arith))
 
 -- what was gathered from the place of a stimulus on is next
-pub gathered_next : (told : Told) (stimulus : Stimulus) (wanted : ℕ) (mid new : Batch) → IsGathered stimulus.before stimulus.done stimulus.line stimulus.at (rows_left stimulus) [] mid → mid.read ≡ stimulus.at → GathersOf told stimulus.before mid new (Ok tt)
+pub gathered_next : (told : Told) (stimulus : Stimulus) (wanted : ℕ) (mid new : Batch)
+    → IsGathered stimulus.before stimulus.done stimulus.line stimulus.at (rows_left stimulus) [] mid → mid.read ≡ stimulus.at
+    → GathersOf told stimulus.before mid new (Ok tt)
     → HasFitNumbers new → length new.rows ≡ wanted → ((text : List ℕ) → told ≡ held text → StandsIn stimulus text) → IsNext told wanted stimulus new
 gathered_next told stimulus wanted mid new gathered read gathers fit full stands =
     let r = gathers stimulus.done stimulus.line (rows_left stimulus) (subst (λ (n : ℕ). IsGathered stimulus.before stimulus.done stimulus.line n (rows_left stimulus) [] mid) (sym read) gathered) in
@@ -143,8 +155,12 @@ gathered_next told stimulus wanted mid new gathered read gathers fit full stands
     }
 
 -- a fault lies in bytes that were read, and a text that is told has none
-pub never_fails : (told : Told) (stimulus : Stimulus) (wanted : ℕ) (mid new : Batch) (fault : StimFault) → IsGathered stimulus.before stimulus.done stimulus.line stimulus.at (rows_left stimulus) [] mid → mid.read ≡ stimulus.at → mid.wanted ≡ wanted
-    → GathersOf told stimulus.before mid new (Err fault) → stimulus.done + wanted ≤ stimulus.clocks → ((text : List ℕ) → told ≡ held text → StandsIn stimulus text) → is_text_fault fault ≡ true → HasNoNext wanted stimulus fault × ((text : List ℕ) → told ≡ held text → ⊥)
+pub never_fails : (told : Told) (stimulus : Stimulus) (wanted : ℕ) (mid new : Batch) (fault : StimFault)
+    → IsGathered stimulus.before stimulus.done stimulus.line stimulus.at (rows_left stimulus) [] mid → mid.read ≡ stimulus.at
+    → mid.wanted ≡ wanted
+    → GathersOf told stimulus.before mid new (Err fault) → stimulus.done + wanted ≤ stimulus.clocks
+    → ((text : List ℕ) → told ≡ held text → StandsIn stimulus text) → is_text_fault fault ≡ true
+    → HasNoNext wanted stimulus fault × ((text : List ℕ) → told ≡ held text → ⊥)
 never_fails told stimulus wanted mid new fault gathered read same gathers few stands of_text =
     let origin = subst (λ (n : ℕ). IsGathered stimulus.before stimulus.done stimulus.line n (rows_left stimulus) [] mid) (sym read) gathered in
     let fails = gathers of_text stimulus.done stimulus.line (rows_left stimulus) origin in
@@ -158,16 +174,19 @@ never_fails told stimulus wanted mid new fault gathered read same gathers few st
     )
 
 -- the rows have the width
-pub rows_wide : (stimulus : Stimulus) (batch : Batch) → HasItsRows stimulus.before stimulus.done batch → batch.scan.width ≡ stimulus.width → All (λ row. length row ≡ stimulus.width) batch.rows
+pub rows_wide : (stimulus : Stimulus) (batch : Batch) → HasItsRows stimulus.before stimulus.done batch → batch.scan.width ≡ stimulus.width
+    → All (λ row. length row ≡ stimulus.width) batch.rows
 rows_wide stimulus batch has width = λ k d inside.
     let rows = batch.rows in
     let copies = replicate batch.owed (last_row stimulus.before rows) in
     let there = has.wide k d (omega (inside, length-append rows copies, arith)) in
     sym (ap (λ (row : List Bool). length row) (get_or_append_left rows copies d k inside)) ∙ there ∙ width
 
-last_of : (width : ℕ) (row : List Bool) (rows : List (List Bool)) → length row ≡ width → All (λ row. length row ≡ width) rows → length (last_row row rows) ≡ width
+last_of : (width : ℕ) (row : List Bool) (rows : List (List Bool)) → length row ≡ width → All (λ row. length row ≡ width) rows
+    → length (last_row row rows) ≡ width
 last_of width row [] wide all = wide
 last_of width row (next ∷ rows) wide all = last_of width next rows (all 0 next (omega arith)) (λ k d inside. all (suc k) d (omega (inside, arith)))
 
-pub last_wide : (stimulus : Stimulus) (batch : Batch) → HasItsRows stimulus.before stimulus.done batch → batch.scan.width ≡ stimulus.width → length (last_row stimulus.before batch.rows) ≡ stimulus.width
+pub last_wide : (stimulus : Stimulus) (batch : Batch) → HasItsRows stimulus.before stimulus.done batch → batch.scan.width ≡ stimulus.width
+    → length (last_row stimulus.before batch.rows) ≡ stimulus.width
 last_wide stimulus batch has width = last_of stimulus.width stimulus.before batch.rows (has.first ∙ width) (rows_wide stimulus batch has width)

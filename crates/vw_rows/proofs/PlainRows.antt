@@ -76,7 +76,8 @@ rows_within : (rows : List (List Bool)) → length rows ≤ length (rows_written
 rows_within [] = omega arith
 rows_within (row ∷ rows) = omega (rows_within rows, length-append (bits_text row ++ 10 ∷ []) (rows_written rows), length-append (bits_text row) (10 ∷ []), arith)
 
-pub rows_again : (width : ℕ) (rows : List (List Bool)) → All (λ row. length row ≡ width) rows → length (rows_written rows) ≤ 1073741824 → stimulus_rows width (rows_written rows) ≡ Ok rows
+pub rows_again : (width : ℕ) (rows : List (List Bool)) → All (λ row. length row ≡ width) rows → length (rows_written rows) ≤ 1073741824
+    → stimulus_rows width (rows_written rows) ≡ Ok rows
 rows_again width rows wide short =
     cond-false _ _ _ (le-ltb 1073741824 (length (rows_written rows)) short)
     ∙ lines_again width 1 0 (replicate width false) rows wide (omega (short, rows_within rows, arith))

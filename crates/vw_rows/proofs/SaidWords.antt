@@ -39,7 +39,8 @@ FirstGoesOn front more = (x : List ℕ) × (ws : List (List ℕ)) × (words_of (
 solid_longer : (part : List ℕ) (b : ℕ) → IsSolid part → is_blank b ≡ false → IsSolid (part ++ b ∷ [])
 solid_longer part b solid nonblank = All-append (λ b. is_blank b ≡ false) part (b ∷ []) solid (All-cons (λ b. is_blank b ≡ false) b [] nonblank (All-nil (λ b. is_blank b ≡ false)))
 
-first_by : (c : ℕ) (cs front : List ℕ) → IsSolid front → 0 < length front → (IsSolid (front ++ c ∷ []) → 0 < length (front ++ c ∷ []) → FirstGoesOn (front ++ c ∷ []) cs)
+first_by : (c : ℕ) (cs front : List ℕ) → IsSolid front → 0 < length front
+    → (IsSolid (front ++ c ∷ []) → 0 < length (front ++ c ∷ []) → FirstGoesOn (front ++ c ∷ []) cs)
     → (blank : Bool) → is_blank c ≡ blank → FirstGoesOn front (c ∷ cs)
 first_by c cs front solid some further true is =
     ([], words_of cs, part_ended front cs c solid is ∙ ap (λ (ws : List (List ℕ)). ws ++ words_of cs) (one_part front solid some) ∙ ap (λ (w : List ℕ). w ∷ words_of cs) (sym (append-nil front)))
@@ -52,7 +53,8 @@ first_goes_on front [] solid some = ([], [], ap words_of (append-nil front) ∙ 
 first_goes_on front (c ∷ cs) solid some = first_by c cs front solid some (first_goes_on (front ++ c ∷ []) cs) (is_blank c) refl
 
 -- a word begins with a part and a byte that is no blank
-pub word_with : (part more : List ℕ) (b : ℕ) → IsSolid part → is_blank b ≡ false → (x : List ℕ) × (ws : List (List ℕ)) × (words_of (part ++ b ∷ more) ≡ (part ++ b ∷ x) ∷ ws)
+pub word_with : (part more : List ℕ) (b : ℕ) → IsSolid part → is_blank b ≡ false
+    → (x : List ℕ) × (ws : List (List ℕ)) × (words_of (part ++ b ∷ more) ≡ (part ++ b ∷ x) ∷ ws)
 word_with part more b solid nonblank =
     let r = first_goes_on (part ++ b ∷ []) more (solid_longer part b solid nonblank) (omega (length-append part (b ∷ []), arith)) in
     (r.0, r.1, ap words_of (sym (append_assoc part (b ∷ []) more)) ∙ r.2 ∙ ap (λ (w : List ℕ). w ∷ r.1) (append_assoc part (b ∷ []) r.0))
@@ -75,19 +77,22 @@ bad_pair w second [] none width number before = ap (repeated number before) none
 bad_pair w second (c ∷ cs) none width number before = refl
 
 -- the first word is none with which a line begins
-pub bad_word : (done : List (List ℕ)) (part more : List ℕ) (b : ℕ) → done ≡ [] → IsSolid part → is_blank b ≡ false → ((x : List ℕ) → IsBadWord (part ++ b ∷ x)) → AreBad (done ++ words_of (part ++ b ∷ more))
+pub bad_word : (done : List (List ℕ)) (part more : List ℕ) (b : ℕ) → done ≡ [] → IsSolid part → is_blank b ≡ false
+    → ((x : List ℕ) → IsBadWord (part ++ b ∷ x)) → AreBad (done ++ words_of (part ++ b ∷ more))
 bad_word done part more b none solid nonblank bad width number before =
     let r = word_with part more b solid nonblank in
     ap (rows_added width number before) (ap (λ (d : List (List ℕ)). d ++ words_of (part ++ b ∷ more)) none ∙ r.2) ∙ bad_first (part ++ b ∷ r.0) r.1 (bad r.0) width number before
 
 -- a further word behind one with which no pair of words begins, or with which it ends
-pub bad_second : (done : List (List ℕ)) (first part more : List ℕ) (b : ℕ) → done ≡ first ∷ [] → IsSolid part → is_blank b ≡ false → ((x : List ℕ) → held_times first (part ++ b ∷ x) ≡ None) → AreBad (done ++ words_of (part ++ b ∷ more))
+pub bad_second : (done : List (List ℕ)) (first part more : List ℕ) (b : ℕ) → done ≡ first ∷ [] → IsSolid part → is_blank b ≡ false
+    → ((x : List ℕ) → held_times first (part ++ b ∷ x) ≡ None) → AreBad (done ++ words_of (part ++ b ∷ more))
 bad_second done first part more b one solid nonblank bad width number before =
     let r = word_with part more b solid nonblank in
     ap (rows_added width number before) (ap (λ (d : List (List ℕ)). d ++ words_of (part ++ b ∷ more)) one ∙ ap (λ (ws : List (List ℕ)). first ∷ ws) r.2) ∙ bad_pair first (part ++ b ∷ r.0) r.1 (bad r.0) width number before
 
 -- a third word
-pub bad_third : (done : List (List ℕ)) (first second part more : List ℕ) (b : ℕ) → done ≡ first ∷ second ∷ [] → IsSolid part → is_blank b ≡ false → AreBad (done ++ words_of (part ++ b ∷ more))
+pub bad_third : (done : List (List ℕ)) (first second part more : List ℕ) (b : ℕ) → done ≡ first ∷ second ∷ [] → IsSolid part
+    → is_blank b ≡ false → AreBad (done ++ words_of (part ++ b ∷ more))
 bad_third done first second part more b two solid nonblank width number before =
     let r = word_with part more b solid nonblank in
     ap (rows_added width number before) (ap (λ (d : List (List ℕ)). d ++ words_of (part ++ b ∷ more)) two ∙ ap (λ (ws : List (List ℕ)). first ∷ second ∷ ws) r.2)
@@ -111,7 +116,8 @@ head_bit : (part : List ℕ) → is_bits part ≡ true → (x : List ℕ) → (b
 head_bit [] is x = absurd (true≢false (sym is))
 head_bit (c ∷ cs) is x = by (c == 48) (c == 49) refl refl ((and_parts (bit c) (list_all bit cs) (and_parts (list_all bit (c ∷ cs)) _ is).0).0)
   where
-    by : (zero_ one_ : Bool) → (c == 48) ≡ zero_ → (c == 49) ≡ one_ → bit c ≡ true → (bytes_eq (c ∷ (cs ++ x)) (codes "-") ≡ false) × (bytes_eq (c ∷ (cs ++ x)) (codes "hold") ≡ false)
+    by : (zero_ one_ : Bool) → (c == 48) ≡ zero_ → (c == 49) ≡ one_ → bit c ≡ true
+        → (bytes_eq (c ∷ (cs ++ x)) (codes "-") ≡ false) × (bytes_eq (c ∷ (cs ++ x)) (codes "hold") ≡ false)
     by true one_ is_zero is_one is_bit = rw (eqb-true c 48 is_zero) (refl, refl)
     by false true is_zero is_one is_bit = rw (eqb-true c 49 is_one) (refl, refl)
     by false false is_zero is_one is_bit = absurd (true≢false (sym is_bit ∙ ap (λ v. v || (c == 49)) is_zero ∙ is_one))
@@ -200,7 +206,8 @@ too_many word large = by (is_number word && nat_lt (value_from 0 word) (2 ^ 64))
     by true e = ap (option_and_then clocks_within) (cond-true _ _ _ e) ∙ cond-false (nat_le (value_from 0 word) 4294967295) _ _ (lt-leb (value_from 0 word) 4294967295 large)
     by false e = ap (option_and_then clocks_within) (cond-false _ _ _ e)
 
-pub stops_when_large : (part : List ℕ) (b : ℕ) (x : List ℕ) (times : ℕ) → value_from 0 part ≡ times → 4294967295 < times * 10 + (b - 48) → held_times (codes "hold") (part ++ b ∷ x) ≡ None
+pub stops_when_large : (part : List ℕ) (b : ℕ) (x : List ℕ) (times : ℕ) → value_from 0 part ≡ times → 4294967295 < times * 10 + (b - 48)
+    → held_times (codes "hold") (part ++ b ∷ x) ≡ None
 stops_when_large part b x times value large =
     too_many (part ++ b ∷ x) (omega (large, value_from-le (value_from 0 part * 10 + (b - 48)) x, value, value_from-append 0 part (b ∷ x), arith))
 
@@ -219,7 +226,8 @@ pub value_longer : (part : List ℕ) (b : ℕ) → value_from 0 (part ++ b ∷ [
 value_longer part b = value_from-append 0 part (b ∷ [])
 
 -- a number that has ended
-pub is_times : (part : List ℕ) (times : ℕ) → is_number part ≡ true → value_from 0 part ≡ times → times ≤ 4294967295 → held_times (codes "hold") part ≡ Some times
+pub is_times : (part : List ℕ) (times : ℕ) → is_number part ≡ true → value_from 0 part ≡ times → times ≤ 4294967295
+    → held_times (codes "hold") part ≡ Some times
 is_times part times is value few =
     let small : nat_lt (value_from 0 part) (2 ^ 64) ≡ true = lt-ltb _ _ (omega (value, few, arith)) in
     ap (option_and_then clocks_within) (cond-true _ _ _ (and_from (is_number part) _ is small) ∙ ap Some value)
@@ -244,7 +252,8 @@ not_digit b is = by (is_digit b) is
 pub word_done : (done : List (List ℕ)) (part : List ℕ) → done ≡ [] → IsSolid part → 0 < length part → done ++ words_of part ≡ part ∷ []
 word_done done part none solid some = ap (λ (d : List (List ℕ)). d ++ words_of part) none ∙ one_part part solid some
 
-pub word_done_behind : (done : List (List ℕ)) (first part : List ℕ) → done ≡ first ∷ [] → IsSolid part → 0 < length part → done ++ words_of part ≡ first ∷ part ∷ []
+pub word_done_behind : (done : List (List ℕ)) (first part : List ℕ) → done ≡ first ∷ [] → IsSolid part → 0 < length part
+    → done ++ words_of part ≡ first ∷ part ∷ []
 word_done_behind done first part one solid some = ap (λ (d : List (List ℕ)). d ++ words_of part) one ∙ ap (λ (ws : List (List ℕ)). first ∷ ws) (one_part part solid some)
 
 -- letters of `hold` are a word of no line
@@ -256,7 +265,8 @@ few_letters (suc (suc (suc zero))) some few other = (record { bits = refl; dash 
 few_letters (suc (suc (suc (suc zero)))) some few other = absurd (other refl)
 few_letters (suc (suc (suc (suc (suc n))))) some few other = absurd (omega (few, arith))
 
-pub letters_end : (done : List (List ℕ)) (part : List ℕ) (count : ℕ) → done ≡ [] → part ≡ take count (codes "hold") → 0 < count → count ≤ 4 → count ≢ 4 → IsSolid part → (words : List (List ℕ)) → AreBad ((done ++ words_of part) ++ words)
+pub letters_end : (done : List (List ℕ)) (part : List ℕ) (count : ℕ) → done ≡ [] → part ≡ take count (codes "hold") → 0 < count → count ≤ 4
+    → count ≢ 4 → IsSolid part → (words : List (List ℕ)) → AreBad ((done ++ words_of part) ++ words)
 letters_end done part count none is some few other solid words width number before =
     let bad = few_letters count some few other in
     let long : 0 < length part = subst (λ (p : List ℕ). 0 < length p) (sym is) bad.1 in

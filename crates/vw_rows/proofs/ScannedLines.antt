@@ -20,7 +20,8 @@ use Rattle.vw_rows.specs.Steps.Scans.{rows_from_line, rows_by, FitsWidth, AddsRo
 
 -- ---- one line
 
-pub line_bad : (read : LineSoFar) (line : List ℕ) (width number : ℕ) (before : List Bool) → EndsWord read.said None → IsLine line read → rows_added width number before (line_words line) ≡ Err (BadLine number)
+pub line_bad : (read : LineSoFar) (line : List ℕ) (width number : ℕ) (before : List Bool) → EndsWord read.said None → IsLine line read
+    → rows_added width number before (line_words line) ≡ Err (BadLine number)
 line_bad read line width number before ends is =
     ap (rows_added width number before) (is.whole ∙ sym (append-nil (is.done ++ words_of is.part))) ∙ ends is.done is.part is.row is.said is.solid [] width number before
 
@@ -48,7 +49,8 @@ few_added Row width row fits = omega arith
 few_added (Copies times) width row fits = fits
 
 -- with this line there are too many rows
-pub too_many_clocks : (scan : Scan) (adds : Adds) (line : List ℕ) (clocks : ℕ) (before : List Bool) → AddsRows scan adds line → scan.clocks ≤ 4294967295 → clocks ≡ min (scan.clocks + rows_from_line adds) (2 ^ 64 - 1) → 4294967295 < clocks
+pub too_many_clocks : (scan : Scan) (adds : Adds) (line : List ℕ) (clocks : ℕ) (before : List Bool) → AddsRows scan adds line
+    → scan.clocks ≤ 4294967295 → clocks ≡ min (scan.clocks + rows_from_line adds) (2 ^ 64 - 1) → 4294967295 < clocks
     → within_run scan.clocks (rows_added scan.width scan.number before (line_words line)) ≡ Err (TooManyClocks clocks)
 too_many_clocks scan adds line clocks before is few sum many =
     let by = rows_by adds is.row before in
@@ -58,7 +60,8 @@ too_many_clocks scan adds line clocks before is few sum many =
     ∙ ap (λ n. Err (TooManyClocks n)) exact
 
 -- the line is counted
-pub counted_line : (scan : Scan) (adds : Adds) (line : List ℕ) (clocks : ℕ) → AddsRows scan adds line → scan.clocks ≤ 4294967295 → clocks ≡ min (scan.clocks + rows_from_line adds) (2 ^ 64 - 1) → clocks ≤ 4294967295 → AddsToRun scan adds line
+pub counted_line : (scan : Scan) (adds : Adds) (line : List ℕ) (clocks : ℕ) → AddsRows scan adds line → scan.clocks ≤ 4294967295
+    → clocks ≡ min (scan.clocks + rows_from_line adds) (2 ^ 64 - 1) → clocks ≤ 4294967295 → AddsToRun scan adds line
 counted_line scan adds line clocks is few sum within = record {
   row = is.row;
   added = λ before.
@@ -87,7 +90,9 @@ module _ (scan : Scan) (before : List Bool) where
       ∙ ap (λ n. behind by (rows_of_lines scan.width (scan.number + 1) (scan.clocks + n) (last_row before by) (text_lines rest))) (length-rows_by adds is.row before)
 
   -- a line with its end, which is at fault
-  pub line_at_fault : (line rest : List ℕ) (fault : StimFault) → IsUnended line → within_run scan.clocks (rows_added scan.width scan.number before (line_words line)) ≡ Err fault → rows_from (line ++ 10 ∷ rest) ≡ Err fault
+  pub line_at_fault : (line rest : List ℕ) (fault : StimFault) → IsUnended line
+      → within_run scan.clocks (rows_added scan.width scan.number before (line_words line)) ≡ Err fault
+      → rows_from (line ++ 10 ∷ rest) ≡ Err fault
   line_at_fault line rest fault unended is =
       let further = λ (added : List (List Bool)). behind added (rows_of_lines scan.width (scan.number + 1) (scan.clocks + length added) (last_row before added) (text_lines rest)) in
       ap (rows_of_lines scan.width scan.number scan.clocks before) (line_first line rest unended) ∙ ap (λ said. and_then said further) is
@@ -99,13 +104,15 @@ module _ (scan : Scan) (before : List Bool) where
       ap (rows_of_lines scan.width scan.number scan.clocks before) bad.cut ∙ ap (λ said. and_then (within_run scan.clocks said) further) (bad.bad scan.width scan.number before)
 
   -- the last line, which has no end
-  pub last_line : (line : List ℕ) (added : List (List Bool)) → IsUnended line → scan.clocks ≤ 4294967295 → within_run scan.clocks (rows_added scan.width scan.number before (line_words line)) ≡ Ok added → rows_from line ≡ Ok added
+  pub last_line : (line : List ℕ) (added : List (List Bool)) → IsUnended line → scan.clocks ≤ 4294967295
+      → within_run scan.clocks (rows_added scan.width scan.number before (line_words line)) ≡ Ok added → rows_from line ≡ Ok added
   last_line [] added unended few is = sym (cond-false _ _ _ (le-ltb 4294967295 (scan.clocks + 0) (omega (few, arith)))) ∙ is
   last_line (b ∷ bs) added unended few is =
       let further = λ (added : List (List Bool)). behind added (rows_of_lines scan.width (scan.number + 1) (scan.clocks + length added) (last_row before added) []) in
       ap (rows_of_lines scan.width scan.number scan.clocks before) (line_alone (b ∷ bs) (omega arith) unended) ∙ ap (λ said. and_then said further) is ∙ ap Ok (append-nil added)
 
-  pub last_line_at_fault : (line : List ℕ) (fault : StimFault) → IsUnended line → scan.clocks ≤ 4294967295 → within_run scan.clocks (rows_added scan.width scan.number before (line_words line)) ≡ Err fault → rows_from line ≡ Err fault
+  pub last_line_at_fault : (line : List ℕ) (fault : StimFault) → IsUnended line → scan.clocks ≤ 4294967295
+      → within_run scan.clocks (rows_added scan.width scan.number before (line_words line)) ≡ Err fault → rows_from line ≡ Err fault
   last_line_at_fault [] fault unended few is = sym (cond-false _ _ _ (le-ltb 4294967295 (scan.clocks + 0) (omega (few, arith)))) ∙ is
   last_line_at_fault (b ∷ bs) fault unended few is =
       let further = λ (added : List (List Bool)). behind added (rows_of_lines scan.width (scan.number + 1) (scan.clocks + length added) (last_row before added) []) in

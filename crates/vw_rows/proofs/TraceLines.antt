@@ -4,7 +4,8 @@ use Rattle.vw_net.specs.History.{History, joined}
 use Rattle.vw_rows.specs.Trace.{rows_text, clock_text, end_text, trace_lines_from}
 
 -- the lines of clocks, and then of others
-pub rows_text-append : (first : ℕ) (outputs states later_outputs later_states : List (List Bool)) → length outputs ≡ length states → rows_text first (outputs ++ later_outputs) (states ++ later_states) ≡ rows_text first outputs states ++ rows_text (first + length outputs) later_outputs later_states
+pub rows_text-append : (first : ℕ) (outputs states later_outputs later_states : List (List Bool)) → length outputs ≡ length states
+    → rows_text first (outputs ++ later_outputs) (states ++ later_states) ≡ rows_text first outputs states ++ rows_text (first + length outputs) later_outputs later_states
 rows_text-append first [] [] later_outputs later_states same = ap (λ n. rows_text n later_outputs later_states) (let e : first ≡ first + 0 = omega arith in e)
 rows_text-append first [] (state ∷ states) later_outputs later_states same = absurd (omega arith)
 rows_text-append first (row ∷ outputs) [] later_outputs later_states same = absurd (omega arith)
@@ -14,7 +15,8 @@ rows_text-append first (row ∷ outputs) (state ∷ states) later_outputs later_
     ∙ sym (append_assoc (clock_text first row state) (rows_text (first + 1) outputs states) (rows_text (first + length (row ∷ outputs)) later_outputs later_states))
 
 -- what follows the first line goes on behind the clocks of a first history
-pub trace_lines_from-joined : (first : ℕ) (one more : History) → length one.outputs ≡ length one.states → trace_lines_from first (joined one more) ≡ rows_text first one.outputs one.states ++ trace_lines_from (first + length one.outputs) more
+pub trace_lines_from-joined : (first : ℕ) (one more : History) → length one.outputs ≡ length one.states
+    → trace_lines_from first (joined one more) ≡ rows_text first one.outputs one.states ++ trace_lines_from (first + length one.outputs) more
 trace_lines_from-joined first one more same =
     let count : first + length (one.outputs ++ more.outputs) ≡ first + length one.outputs + length more.outputs = omega (arith, length-append one.outputs more.outputs) in
     let written = rows_text first one.outputs one.states in

@@ -21,8 +21,10 @@ module _ (planned : PlannedBoard) (place : ℕ) (items : List ℕ) (inputs : ℕ
   place_low : place < 2 ^ 32
   place_low = omega (arith, ap length are, length-order planned.ordered.flat.inputs planned.ordered.flat.cells planned.ordered.order planned.ordered.is_order, planned.ordered.flat.few_cells)
 
-  pushed : (leads : List ℕ) (made more : List Entry) (whole : List Entry) → AreLeads planned leads → more ≡ made ++ gate_entry_of planned (get_or leads (inputs + get_or items place 0) 0) place (get_or items place 0) ∷ []
-      → made ++ gate_entries planned place (drop place planned.ordered.order) ≡ whole → more ++ gate_entries planned (place + 1) (drop (place + 1) planned.ordered.order) ≡ whole
+  pushed : (leads : List ℕ) (made more : List Entry) (whole : List Entry) → AreLeads planned leads
+      → more ≡ made ++ gate_entry_of planned (get_or leads (inputs + get_or items place 0) 0) place (get_or items place 0) ∷ []
+      → made ++ gate_entries planned place (drop place planned.ordered.order) ≡ whole
+      → more ++ gate_entries planned (place + 1) (drop (place + 1) planned.ordered.order) ≡ whole
   pushed leads made more whole are_leads is so_far =
       let order = planned.ordered.order in
       let number = get_or items place 0 in

@@ -18,13 +18,16 @@ use Rattle.vw_prog.proofs.build.timetable.Goals as goal
 abbrev planned_in_checked : Checked → PlannedBoard
 planned_in_checked checked = planned_board checked.ordered checked.board checked.plan
 
-same_board : (checked : Checked) (ordered : Ordered) (board : Board) (plan : Plan) → ordered ≡ checked.ordered → board ≡ checked.board → plan ≡ checked.plan → planned_board ordered board plan ≡ planned_in_checked checked
+same_board : (checked : Checked) (ordered : Ordered) (board : Board) (plan : Plan) → ordered ≡ checked.ordered → board ≡ checked.board
+    → plan ≡ checked.plan → planned_board ordered board plan ≡ planned_in_checked checked
 same_board checked ordered board plan one two three = λ i. planned_board (one i) (two i) (three i)
 
-each_cell : (checked : Checked) (ordered : Ordered) (plan : Plan) → ordered ≡ checked.ordered → plan ≡ checked.plan → length plan.chip_of ≡ length ordered.flat.cells
+each_cell : (checked : Checked) (ordered : Ordered) (plan : Plan) → ordered ≡ checked.ordered → plan ≡ checked.plan
+    → length plan.chip_of ≡ length ordered.flat.cells
 each_cell checked ordered plan one two = ap (λ (own : Plan). length own.chip_of) two ∙ checked.sound.one_chip_each.each ∙ sym (ap (λ (own : Ordered). length own.flat.cells) one)
 
-its_nets : (checked : Checked) (ordered : Ordered) (plan : Plan) → ordered ≡ checked.ordered → plan ≡ checked.plan → All (λ wire. wire.net < ordered.flat.inputs + length ordered.flat.cells) plan.wires
+its_nets : (checked : Checked) (ordered : Ordered) (plan : Plan) → ordered ≡ checked.ordered → plan ≡ checked.plan
+    → All (λ wire. wire.net < ordered.flat.inputs + length ordered.flat.cells) plan.wires
 its_nets checked ordered plan one two =
     subst (λ (own : Ordered). All (λ (wire : Wire). wire.net < own.flat.inputs + length own.flat.cells) plan.wires) (sym one)
     (subst (λ (own : Plan). All (λ (wire : Wire). wire.net < checked.ordered.flat.inputs + length checked.ordered.flat.cells) own.wires) (sym two) (wires_fine (planned_in_checked checked) checked.sound))

@@ -4,7 +4,8 @@ use Rattle.std.proofs.lemmas.Bool.{ltb-true, ltb-false}
 use Rattle.vw_outside.specs.Reads.{Fills}
 use Rattle.vw_rows.proofs.pieces.is_too_large.Goals as goal
 
-past : (bytes buffer : List ℕ) (count : ℕ) → Fills bytes 1073741824 buffer count → 0 < length buffer → MatchBool (nat_lt 0 count) (1073741824 < length bytes) (length bytes ≤ 1073741824)
+past : (bytes buffer : List ℕ) (count : ℕ) → Fills bytes 1073741824 buffer count → 0 < length buffer
+    → MatchBool (nat_lt 0 count) (1073741824 < length bytes) (length bytes ≤ 1073741824)
 past bytes buffer count fills room = by (nat_lt 0 count) refl
   where
     no_less : (m n : ℕ) → (m < n → ⊥) → n ≤ m
