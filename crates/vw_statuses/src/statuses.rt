@@ -108,7 +108,7 @@ pub fn plan_statuses()
         → PlanStatuses probes design board by call }
 {}
 
-/// What each status of `run` says of its files, with 64 probes at most, where it is given a plan and where it makes one: after
+/// What each status of `run` says of its files, with 64 probes at most, whichever way its plan comes (`PlanBy`): after
 /// status 0 the plan is sound, or good, and out has the trace of the unpartitioned design; with several workers each link has
 /// carried exactly its words of that plan.
 pub fn run_statuses()
@@ -118,7 +118,7 @@ pub fn run_statuses()
         → RunStatuses probes (trace_of unknown) design board by stimulus workers unknown call }
 {}
 
-/// What each status of `save` says of its files, where it is given a plan and where it makes one: after status 0, out has the
+/// What each status of `save` says of its files, whichever way its plan comes (`PlanBy`): after status 0, out has the
 /// state of the unpartitioned design after all rows; with several workers each link has carried exactly its words.
 pub fn save_statuses()
     ensures { (design board stimulus : List ℕ) (by : PlanBy) (workers : ℕ)
@@ -127,7 +127,7 @@ pub fn save_statuses()
         → RunStatuses [] (saved_of unknown) design board by stimulus workers unknown call }
 {}
 
-/// What each status of `resume` says of its files, where it is given a plan and where it makes one: after status 0, out has the
+/// What each status of `resume` says of its files, whichever way its plan comes (`PlanBy`): after status 0, out has the
 /// trace of the unpartitioned design from the state on; with several workers each link has carried exactly its words.
 pub fn resume_statuses()
     ensures { (design board state stimulus : List ℕ) (by : PlanBy) (workers : ℕ)
@@ -153,7 +153,7 @@ pub fn emitted_boards_show_designs()
     emitted_texts_show_their_designs();
 }
 
-/// What each status of `emit` says of its files, where it is given a plan and where it makes one: after status 0, out
+/// What each status of `emit` says of its files, whichever way its plan comes (`PlanBy`): after status 0, out
 /// has a design that runs and shows the design of the text.
 pub fn emit_statuses()
     ensures { (design board : List ℕ) (by : PlanBy) (call : Call)
