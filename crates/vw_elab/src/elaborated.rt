@@ -10,8 +10,6 @@ ghost use Rattle.vw_design.specs.PathValue.{place_of_path};
 ghost use Rattle.vw_design.specs.Preorder.{instances, cells, Site};
 ghost use Rattle.vw_drivers.specs.Names.{reads_of};
 ghost use Rattle.vw_instances.specs.Tables.{IsCellSite};
-ghost use Rattle.vw_drivers.specs.Firsts.{number_named};
-ghost use Rattle.vw_drivers.specs.Tables.{instance_firsts};
 ghost use Rattle.vw_elab.specs.Steps.ByColumns.{driver_by, reading_of};
 ghost use Rattle.vw_elab.specs.Numbers.{IsInstance, driver_of};
 ghost use Rattle.vw_elab.specs.Steps.DesignParts.{IsElaborated};
@@ -21,9 +19,9 @@ use crate::parts::NumberedParts;
 use std::alloc::{AllocError, Global};
 use std::marker::Model;
 use vw_design::Design;
-use vw_drivers::{Source, Tables};
+use vw_drivers::Source;
 use vw_instances::CellSite;
-use vw_net_faults::{Columns, print_net};
+use vw_net_faults::{Columns, claim_number};
 use vw_outside::Name;
 
 /// An instance by numbers.
@@ -77,15 +75,6 @@ fn driver_by(columns: &Columns, source: Option<Source>) -> Option<Driver>
             None => Some(Driver::Clock),
         },
     }
-}
-
-/// The number of the first claim on a name of an instance.
-fn claim_number(tables: &Tables, instance: u32, name: &[u8]) -> Option<u32>
-    ensures { result ≡ number_named (instance_firsts tables.now instance) name.now }
-{
-    let entry = tables.instances().get(instance as usize)?;
-    let claims = tables.claims().get(entry.model as usize)?;
-    claims.first(name)
 }
 
 /// What a cell reads: the instance of the net, and the number of the first claim on its name there.
@@ -242,12 +231,7 @@ impl Elaborated {
             → slice_get (instances self.now) instance ≡ Some path
             → text ≡ printed (net_at path name.now)) }
     {
-        print_net(
-            alloc,
-            &self.design,
-            self.parts.tables.instances(),
-            instance,
-            name,
-        )
+        let nets = self.parts.nets(&self.design);
+        nets.printed(alloc, instance, name)
     }
 }

@@ -1,6 +1,6 @@
 //! Elaboration.
 ghost use Rattle.std.specs.Prelude.{◌≡◌, IfOk, IfErr};
-ghost use Rattle.vw_design.specs.Accepted.{HasNoModelFault, IsAccepted};
+ghost use Rattle.vw_design.specs.Accepted.{IsAccepted};
 ghost use Rattle.vw_drivers.specs.Tables.{root_firsts};
 ghost use Rattle.vw_net_faults.specs.Columns.{AreColumns};
 ghost use Rattle.vw_elab.specs.Refusals.{IsRefusal};
@@ -14,11 +14,10 @@ use crate::parts::NumberedParts;
 use std::alloc::Global;
 use vw_design::Design;
 use vw_models::Targets;
-use vw_net_faults::Columns;
+use vw_net_faults::{Columns, Nets};
 
 /// The instances, claims and drivers of a design, if its models have no fault.
 fn parts_of(alloc: Global, design: &Design) -> Result<NumberedParts, DesignFault>
-    ensures faultless { IfOk result (λ _. HasNoModelFault design.now) }
     ensures parts { IfOk result (AreDesignParts design.now) }
     ensures refused { IfErr result (IsRefusal design.now) }
 {
@@ -32,16 +31,14 @@ fn parts_of(alloc: Global, design: &Design) -> Result<NumberedParts, DesignFault
 }
 
 /// The columns of a design, if its nets have no fault.
-fn columns_of(alloc: Global, design: &Design, parts: &NumberedParts) -> Result<Columns, DesignFault>
-    requires faultless { HasNoModelFault design.now }
-    requires parts { AreDesignParts design.now parts.now }
-    ensures accepted { IfOk result (λ _. IsAccepted design.now) }
-    ensures columns { IfOk result (AreColumns design.now (root_firsts parts.now.tables)) }
-    ensures refused { IfErr result (IsRefusal design.now) }
+fn columns_of(alloc: Global, nets: &Nets) -> Result<Columns, DesignFault>
+    ensures accepted { IfOk result (λ _. IsAccepted nets.now.design.now) }
+    ensures columns { IfOk result (AreColumns nets.now.design.now
+        (root_firsts nets.now.tables.now)) }
+    ensures refused { IfErr result (IsRefusal nets.now.design.now) }
 {
-    let nets = parts.nets(design);
-    check_nets(alloc, &nets)?;
-    let columns = Columns::of(alloc, &nets)?;
+    check_nets(alloc, nets)?;
+    let columns = Columns::of(alloc, nets)?;
     Ok(columns)
 }
 
@@ -54,7 +51,8 @@ fn parts_and_columns(
     ensures refused { IfErr result (IsRefusal design.now) }
 {
     let parts = parts_of(alloc, design)?;
-    let columns = columns_of(alloc, design, &parts)?;
+    let nets = parts.nets(design);
+    let columns = columns_of(alloc, &nets)?;
     Ok((parts, columns))
 }
 

@@ -1,6 +1,5 @@
 //! Faults of nets.
-ghost use Rattle.vw_design.specs.Accepted.{HasNoModelFault, IsAccepted};
-ghost use Rattle.vw_net_faults.specs.Nets.{AreNets};
+ghost use Rattle.vw_design.specs.Accepted.{IsAccepted};
 ghost use Rattle.vw_elab.specs.Steps.FaultSearch.{IsMadeOrRefused, HasDrivers};
 
 use crate::fault::DesignFault;
@@ -9,7 +8,6 @@ use vw_net_faults::Nets;
 
 /// Looks for nets without a driver, or with two.
 fn check_drivers(alloc: Global, nets: &Nets) -> Result<(), DesignFault>
-    requires { AreNets nets.now }
     ensures { IsMadeOrRefused nets.now.design.now (λ _. HasDrivers nets.now.design.now) result }
 {
     if let Some(net) = nets.undriven(alloc)? {
@@ -23,8 +21,7 @@ fn check_drivers(alloc: Global, nets: &Nets) -> Result<(), DesignFault>
 
 /// Looks for faults of clocks.
 fn check_clocks(alloc: Global, nets: &Nets) -> Result<(), DesignFault>
-    requires nets { AreNets nets.now }
-    requires drivers { HasDrivers nets.now.design.now }
+    requires { HasDrivers nets.now.design.now }
     ensures { IsMadeOrRefused nets.now.design.now (λ _. IsAccepted nets.now.design.now) result }
 {
     if let Some(net) = nets.gated_clock(alloc)? {
@@ -44,7 +41,6 @@ fn check_clocks(alloc: Global, nets: &Nets) -> Result<(), DesignFault>
 
 /// Looks for faults of nets. A design without one is accepted.
 pub fn check_nets(alloc: Global, nets: &Nets) -> Result<(), DesignFault>
-    requires { AreNets nets.now }
     ensures { IsMadeOrRefused nets.now.design.now (λ _. IsAccepted nets.now.design.now) result }
 {
     check_drivers(alloc, nets)?;

@@ -1,7 +1,6 @@
 //! The tables of a design by numbers.
 ghost use Rattle.std.specs.Prelude.{◌≡◌, IfOk};
 ghost use Rattle.vw_design.specs.Accepted.{HasNoModelFault};
-ghost use Rattle.vw_net_faults.specs.Nets.{AreNets};
 ghost use Rattle.vw_instances.specs.Sizes.{AreSizes};
 ghost use Rattle.vw_elab.specs.Steps.DesignParts.{AreDesignParts};
 
@@ -49,9 +48,7 @@ impl NumberedParts {
 
     /// The tables by which the nets are looked at.
     pub fn nets<'a>(&'a self, design: &'a Design) -> Nets<'a>
-        requires faultless { HasNoModelFault design.now }
-        requires parts { AreDesignParts design.now self.now }
-        ensures nets { AreNets result }
+        requires { AreDesignParts design.now self.now }
         ensures design { result.design.now ≡ design.now }
         ensures tables { result.tables.now ≡ self.now.tables }
     {

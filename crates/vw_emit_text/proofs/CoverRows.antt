@@ -10,7 +10,8 @@ use Rattle.vw_net.specs.Cover.{mark_at}
 use Rattle.vw_net.proofs.GatheredLists.{mapped_more}
 use Rattle.vw_text.specs.Physical.{lines_text}
 use Rattle.vw_emit_text.specs.Lines.{mark_code, row_line, row_lines}
-use Rattle.vw_emit_text.specs.Steps.{marks_text, row_marks, with_newline}
+use Rattle.vw_text.specs.Printed.{with_newline}
+use Rattle.vw_emit_text.specs.Steps.{marks_text, row_marks}
 
 module _ (cover : Cover) (row : ℕ) (within : row < length cover.rows) where
   -- a row has a mark for each input

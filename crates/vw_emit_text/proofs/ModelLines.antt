@@ -11,7 +11,8 @@ use Rattle.vw_emit_text.specs.Emitted.{port_binding, board_model_lines, emitted_
 use Rattle.vw_emit_text.specs.Lines.{spaced_line, blif_model}
 use Rattle.vw_emit_text.specs.Names.{column_name, node_name, output_name, shown_name}
 use Rattle.vw_emit_text.specs.Nodes.{NodePort, core_items, node_inputs, node_items, output_lines_at, node_outputs, pin_items, same_port}
-use Rattle.vw_emit_text.specs.Steps.{with_newline, numbered_ports, port_text, ports_text}
+use Rattle.vw_text.specs.Printed.{with_newline}
+use Rattle.vw_emit_text.specs.Steps.{numbered_ports, port_text, ports_text}
 use Rattle.vw_text.proofs.LineTexts.{spaced_map}
 use Rattle.vw_text.proofs.WrittenPieces.{grown_lines}
 use Rattle.vw_emit_text.proofs.LineShapes.{model_shape, placed_shape}

@@ -23,10 +23,6 @@ port_text bound port = 32 ∷ (if bound then port_binding port else port.name)
 abbrev pub ports_text : Bool → List NodePort → List ℕ
 ports_text bound ports = flat_map (port_text bound) ports
 
--- lines with their ends
-abbrev pub with_newline : List ℕ → List ℕ
-with_newline line = line ++ 10 ∷ []
-
 -- so many ports of one letter, by number; each has its own name on the board
 abbrev pub ports_from : ℕ → ℕ → ℕ → List NodePort
 ports_from letter first count = map (λ number. same_port (letter ∷ decimal number)) (range_with_len first count)

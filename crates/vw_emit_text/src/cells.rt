@@ -4,7 +4,8 @@ ghost use Rattle.vw_text.specs.Physical.{lines_text};
 ghost use Rattle.vw_emit_text.specs.Lines.{start_word, blif_latch};
 ghost use Rattle.vw_emit_text.specs.Names.{latch_name, latch_next_name, stage_name};
 ghost use Rattle.vw_emit_text.specs.Nodes.{cell_items, gate_items, latch_items, latch_table, local_name, output_lines, register_line, register_lines, register_table, registers, sequencer};
-ghost use Rattle.vw_emit_text.specs.Steps.{with_newline, planned_by};
+ghost use Rattle.vw_text.specs.Printed.{with_newline};
+ghost use Rattle.vw_emit_text.specs.Steps.{planned_by};
 
 use crate::emitter::Emitter;
 use crate::local_names::push_local;

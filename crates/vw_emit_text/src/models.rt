@@ -5,16 +5,17 @@ ghost use Rattle.vw_net.specs.Cells.{latch_count};
 ghost use Rattle.vw_text.specs.Physical.{lines_text};
 ghost use Rattle.vw_emit_text.specs.Emitted.{board_model_lines, node_model_lines, all_nodes, placed_line};
 ghost use Rattle.vw_emit_text.specs.Nodes.{core_items, node_items, output_lines_at, pin_items};
-ghost use Rattle.vw_emit_text.specs.Steps.{with_newline, numbered_ports, planned_by, ports_text};
+ghost use Rattle.vw_text.specs.Printed.{with_newline};
+ghost use Rattle.vw_emit_text.specs.Steps.{numbered_ports, planned_by, ports_text};
 ghost use Rattle.vw_net.specs.declared.limits.TheConstants.{MOST_CELLS};
 
 use crate::cells::{push_gates, push_latches, push_output_lines, push_registers, push_sequencer};
 use crate::emitter::Emitter;
 use crate::ports::{push_inputs, push_numbered, push_outputs};
 use crate::senders::push_senders;
-use crate::words::push_digits;
 use std::alloc::AllocError;
 use vw_net::Cell;
+use vw_text::push_number;
 
 /// How many latches there are.
 pub(crate) fn latch_count(cells: &[Cell]) -> u32
@@ -81,7 +82,7 @@ fn push_node(text: &mut Vec<u8>, emitter: &Emitter, node: u32) -> Result<(), All
         ≡ text.old.items ++ lines_text (node_model_lines (planned_by emitter.now) node)) }
 {
     text.extend_from_slice(b".model node")?;
-    push_digits(text, u64::from(node))?;
+    push_number(text, u64::from(node))?;
     text.extend_from_slice(b"\n.inputs")?;
     push_inputs(text, false, emitter, node)?;
     text.extend_from_slice(b"\n.outputs")?;
@@ -98,7 +99,7 @@ fn push_placed(text: &mut Vec<u8>, emitter: &Emitter, node: u32) -> Result<(), A
         ≡ text.old.items ++ with_newline (placed_line (planned_by emitter.now) node)) }
 {
     text.extend_from_slice(b".subckt node")?;
-    push_digits(text, u64::from(node))?;
+    push_number(text, u64::from(node))?;
     push_inputs(text, true, emitter, node)?;
     push_outputs(text, true, emitter, node)?;
     text.push(b'\n')?;

@@ -3,7 +3,8 @@ ghost use Rattle.std.specs.Prelude.{◌≡◌, ◌<◌, ◌++◌, ◌∷◌, [],
 ghost use Rattle.vw_net.specs.declared.cover.Mark.TheVariants.{Any};
 ghost use Rattle.vw_text.specs.Physical.{lines_text};
 ghost use Rattle.vw_emit_text.specs.Lines.{cover_lines, start_word, mark_code, off_lines, row_line, row_lines};
-ghost use Rattle.vw_emit_text.specs.Steps.{with_newline, marks_text, row_marks};
+ghost use Rattle.vw_text.specs.Printed.{with_newline};
+ghost use Rattle.vw_emit_text.specs.Steps.{marks_text, row_marks};
 
 use std::alloc::AllocError;
 use vw_net::{Cover, Init, Mark};

@@ -2,7 +2,8 @@
 ghost use Rattle.std.specs.Prelude.{◌≡◌, ◌≤◌, ◌++◌, ◌∷◌, OnOk};
 ghost use Rattle.vw_text.specs.Physical.{lines_text};
 ghost use Rattle.vw_emit_text.specs.Nodes.{chosen_lines, delay_line, later_name, outlet_lines, pin_lines, sender_items, sent_items};
-ghost use Rattle.vw_emit_text.specs.Steps.{choice_end, delays_from, with_newline, first_end, next_end, planned_by};
+ghost use Rattle.vw_text.specs.Printed.{with_newline};
+ghost use Rattle.vw_emit_text.specs.Steps.{choice_end, delays_from, first_end, next_end, planned_by};
 
 use crate::emitter::Emitter;
 use crate::local_names::push_sent;

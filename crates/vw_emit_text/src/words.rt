@@ -2,17 +2,8 @@
 ghost use Rattle.std.specs.Prelude.{◌≡◌, ◌++◌, ◌∷◌, OnOk};
 ghost use Rattle.std.specs.Fmt.{decimal};
 
-use itoa::Buffer;
 use std::alloc::AllocError;
-
-/// Appends a number.
-pub(crate) fn push_digits(text: &mut Vec<u8>, number: u64) -> Result<(), AllocError>
-    ensures { OnOk result (text.new.items ≡ text.old.items ++ decimal number) }
-{
-    let mut buffer = Buffer::new();
-    text.extend_from_slice(buffer.format(number).as_bytes())?;
-    Ok(())
-}
+use vw_text::push_number;
 
 /// Appends a byte, a letter and a number.
 pub(crate) fn push_one(
@@ -25,7 +16,7 @@ pub(crate) fn push_one(
 {
     text.push(before)?;
     text.push(letter)?;
-    push_digits(text, number)
+    push_number(text, number)
 }
 
 /// Appends a byte, a letter and two numbers.
@@ -41,7 +32,7 @@ pub(crate) fn push_two(
 {
     push_one(text, before, letter, first)?;
     text.push(b'_')?;
-    push_digits(text, second)
+    push_number(text, second)
 }
 
 /// Appends a byte, a letter and three numbers.
@@ -58,5 +49,5 @@ pub(crate) fn push_three(
 {
     push_two(text, before, letter, first, second)?;
     text.push(b'_')?;
-    push_digits(text, third)
+    push_number(text, third)
 }

@@ -1,5 +1,5 @@
 //! The text of a grading.
-ghost use Rattle.std.specs.Prelude.{◌≡◌, ◌<◌, ◌≤◌, ◌+◌, ◌*◌, ◌++◌, ◌∷◌, [], length, decimal, IfOk, OnOk};
+ghost use Rattle.std.specs.Prelude.{◌≡◌, ◌<◌, ◌≤◌, ◌+◌, ◌*◌, ◌++◌, ◌∷◌, [], length, IfOk, OnOk};
 ghost use Rattle.std.specs.List.{All};
 ghost use Rattle.vw_net.specs.Cells.{latch_count};
 ghost use Rattle.vw_text.specs.Physical.{lines_text};
@@ -7,20 +7,12 @@ ghost use Rattle.vw_fault.specs.Text.{head_line, open_line, open_lines, grading_
 
 use crate::open::Open;
 use crate::passes::grade;
-use itoa::Buffer;
 use std::alloc::{AllocError, Global};
 use std::marker::Sync;
 use std::thread::Threads;
 use vw_net::{Bits, Ordered, Rows};
 use vw_outside::Name;
-
-/// Appends a number.
-fn push_number(text: &mut Vec<u8>, number: u64) -> Result<(), AllocError>
-    ensures { OnOk result (text.new.items ≡ text.old.items ++ decimal number) }
-{
-    let mut buffer = Buffer::new();
-    text.extend_from_slice(buffer.format(number).as_bytes())
-}
+use vw_text::push_number;
 
 /// Appends the line of the counts.
 fn push_head(text: &mut Vec<u8>, faults: u64, detected: u64) -> Result<(), AllocError>

@@ -4,8 +4,8 @@ ghost use Rattle.std.specs.List.{flat_map, range_with_len};
 ghost use Rattle.vw_text.specs.Physical.{lines_text};
 ghost use Rattle.vw_gen.specs.Board.{link_line, both_ways, chip_links, row_links, board_text};
 
-use crate::words::push_number;
 use std::alloc::{AllocError, Global};
+use vw_text::push_number;
 
 /// Appends the line of a link.
 fn push_link(text: &mut Vec<u8>, from: u32, to: u32) -> Result<(), AllocError>

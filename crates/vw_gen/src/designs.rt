@@ -6,8 +6,9 @@ ghost use Rattle.vw_gen.specs.Draws.{drawn_state};
 ghost use Rattle.vw_gen.specs.Design.{outputs_line, names_line, gate_rows, gate_lines, latch_line, draws_before, cell_lines, design_text};
 
 use crate::draws::Draws;
-use crate::words::{push_net, push_number};
+use crate::words::push_net;
 use std::alloc::{AllocError, Global};
+use vw_text::push_number;
 
 /// Appends the line of the outputs.
 fn push_outputs(text: &mut Vec<u8>, cells: u32) -> Result<(), AllocError>

@@ -7,7 +7,7 @@ use crate::draws::Draws;
 use std::alloc::{AllocError, Global};
 
 /// Appends a row of eight bits.
-fn push_bits(text: &mut Vec<u8>, draws: &mut Draws) -> Result<(), AllocError>
+fn push_row(text: &mut Vec<u8>, draws: &mut Draws) -> Result<(), AllocError>
     ensures text { OnOk result (text.new.items
         ≡ text.old.items ++ (drawn_bits draws.old 0 ++ 10 ∷ [])) }
     ensures draws { OnOk result (draws.new ≡ drawn_state draws.old 8) }
@@ -29,7 +29,7 @@ pub fn stimulus(alloc: Global, n: u32) -> Result<Vec<u8>, AllocError>
     let mut draws = Draws::start(n + 1);
     let mut text = Vec::new(alloc);
     for _row in 0..300u32 {
-        push_bits(&mut text, &mut draws)?;
+        push_row(&mut text, &mut draws)?;
     }
     Ok(text)
 }

@@ -1,19 +1,9 @@
-//! Numbers and names of nets, as they stand in texts.
+//! Names of nets, as they stand in texts.
 ghost use Rattle.std.specs.Prelude.{◌≡◌, ◌++◌, OnOk};
-ghost use Rattle.std.specs.Fmt.{decimal};
 ghost use Rattle.vw_gen.specs.Nets.{net_name};
 
-use itoa::Buffer;
 use std::alloc::AllocError;
-
-/// Appends a number.
-pub(crate) fn push_number(text: &mut Vec<u8>, number: u32) -> Result<(), AllocError>
-    ensures { OnOk result (text.new.items ≡ text.old.items ++ decimal number) }
-{
-    let mut buffer = Buffer::new();
-    text.extend_from_slice(buffer.format(number).as_bytes())?;
-    Ok(())
-}
+use vw_text::push_number;
 
 /// Appends the name of a net.
 pub(crate) fn push_net(text: &mut Vec<u8>, net: u32) -> Result<(), AllocError>

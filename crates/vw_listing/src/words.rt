@@ -1,19 +1,9 @@
 //! The words of a line.
 ghost use Rattle.std.specs.Prelude.{◌≡◌, ◌++◌, ◌∷◌, OnOk};
-ghost use Rattle.std.specs.Fmt.{decimal};
 ghost use Rattle.vw_listing.specs.Netlist.{number_words, net_words};
 
-use itoa::Buffer;
 use std::alloc::AllocError;
-
-/// Appends a number.
-pub fn push_number(text: &mut Vec<u8>, number: u32) -> Result<(), AllocError>
-    ensures { OnOk result (text.new.items ≡ text.old.items ++ decimal number) }
-{
-    let mut buffer = Buffer::new();
-    text.extend_from_slice(buffer.format(number).as_bytes())?;
-    Ok(())
-}
+use vw_text::push_number;
 
 /// Appends numbers, each behind a space.
 pub fn push_numbers(text: &mut Vec<u8>, numbers: &[u32]) -> Result<(), AllocError>

@@ -14,7 +14,8 @@ use Rattle.vw_design.proofs.Sites.{site_item}
 use Rattle.vw_design.proofs.PairedLists.{AllZip-at, AllZip-length}
 use Rattle.vw_design.proofs.ListPlaces.{at_within}
 use Rattle.vw_instances.specs.declared.tables.CellSite.{CellSite}
-use Rattle.vw_instances.specs.Tables.{AreCellSites, IsCellSite}
+use Rattle.vw_instances.specs.Tables.{IsCellSite}
+use Rattle.vw_net_faults.specs.declared.nets.Nets.{Nets}
 use Rattle.vw_net_faults.proofs.SearchSteps.{find_map}
 
 -- what stands behind the end of a table of cells
@@ -28,16 +29,18 @@ pub record IsHere (design : Design) (i : ℕ) (cell : CellSite) : Type 0 where
   pub item_is : item_at design site.path cell.item ≡ Some site.item
   pub cut : drop i (cells design) ≡ site ∷ drop (i + 1) (cells design)
 
-module _ (design : Design) (table : List CellSite) (are : AreCellSites design table) where
-  pub same_count : length (cells design) ≡ length table
-  same_count = AllZip-length (IsCellSite (instances design)) (cells design) table are
+module _ (nets : Nets) where
+  same_count : length (cells nets.design.now) ≡ length nets.cells.now
+  same_count = AllZip-length (IsCellSite (instances nets.design.now)) (cells nets.design.now) nets.cells.now nets.has_cells
 
-  pub here : (i : ℕ) → i < length table → IsHere design i (get_or table i no_cell)
+  pub here : (i : ℕ) → i < length nets.cells.now → IsHere nets.design.now i (get_or nets.cells.now i no_cell)
   here i within =
+      let design = nets.design.now in
+      let table = nets.cells.now in
       let cell = get_or table i no_cell in
       let inside : i < length (cells design) = omega (arith, same_count) in
       let site = at_within (cells design) i inside in
-      let found = AllZip-at (IsCellSite (instances design)) (cells design) table i site.0 are site.1 in
+      let found = AllZip-at (IsCellSite (instances design)) (cells design) table i site.0 nets.has_cells site.1 in
       let is : IsCellSite (instances design) site.0 cell =
       subst (λ (e : CellSite). IsCellSite (instances design) site.0 e) (same_Some found.0 cell (sym found.1 ∙ slice_get-get_or table i no_cell within)) found.2 in
       let among = from-filter (λ (s : Site). is_cell s.item) site.0 (sites design) (Has-at site.0 (cells design) i site.1) in
@@ -48,8 +51,8 @@ module _ (design : Design) (table : List CellSite) (are : AreCellSites design ta
         cut = drop_more (cells design) i site.0 inside ∙ ap (λ (s : Site). s ∷ drop (i + 1) (cells design)) (get_or_from_slice_get (cells design) i site.0 site.0 site.1);
       }
 
-  pub past : (i : ℕ) → length table ≤ i → drop i (cells design) ≡ []
-  past i over = drop_all i (cells design) (omega (arith, same_count))
+  pub past : (i : ℕ) → length nets.cells.now ≤ i → drop i (cells nets.design.now) ≡ []
+  past i over = drop_all i (cells nets.design.now) (omega (arith, same_count))
 
 -- a search among the nets that the items of cells name
 module _ (design : Design) (test : Net → Bool) (names : Site → List Word) where

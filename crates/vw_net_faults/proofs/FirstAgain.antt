@@ -2,6 +2,8 @@
 use Rattle.std.proofs.Common.{◌≡◌, ◌<◌, ◌≤◌, ◌+◌, ℕ, true, false, length, Option, Some, None, slice_get, option_map, ⊎_elim, refl, sym, ◌∙◌, ap, ap₂, subst, true≢false, arith}
 use Rattle.std.proofs.lemmas.Bool.{cases_lt, ltb-true, ltb-false}
 use Rattle.std.proofs.lemmas.Option.{same_Some, slice_get_within}
+use Rattle.std.proofs.Props.{props}
+use mathlib.Core.Logic.{∥∥₁_elim}
 use Rattle.vw_design.specs.declared.design.Design.{Design}
 use Rattle.vw_design.specs.declared.item.Item.{Item}
 use Rattle.vw_design.specs.declared.model.Model.{Model}
@@ -113,10 +115,10 @@ module _ (design : Design) (faultless : HasNoModelFault design) where
         is instance.0 site.path (below instance.0 site.path instance.1) instance.1 site.number q name (claimed_at q site at name again)))))
 
     pub first_again_is : (second : Second) → (is : IsFirstSecond design count (Some second)) → two_drivers design ≡ Some (net_at is.0.0 second.name.now)
-    first_again_is second is =
+    first_again_is second is = ∥∥₁_elim is.0.2 (hlevel props) (λ found.
         let path = is.0.0 in
-        let number = is.0.2.0 in
-        let claimed : IsClaimedAt design path number second.position second.name.now = is.0.2.1 in
+        let number = found.0 in
+        let claimed : IsClaimedAt design path number second.position second.name.now = found.1 in
         let site = site_of_place (sites design) path number second.position claimed.place in
         let item = same_Some site.0.item claimed.item (sym (site_item design site.0 (Has-at site.0 (sites design) second.position site.1)) ∙ ap₂ (item_at design) site.2 site.3 ∙ claimed.item_is) in
         let again : claimed_again design site.0 ≡ Some (net_at path second.name.now) =
@@ -126,4 +128,4 @@ module _ (design : Design) (faultless : HasNoModelFault design) where
         (λ q other less at. no_claim other (λ name repeated.
         let instance = instance_of other (Has-at other (sites design) q at) in
         let least : second.position ≤ q = is.1 instance.0 other.path (below instance.0 other.path instance.1) instance.1 other.number q name (claimed_at q other at name repeated) in
-        absurd (omega arith)))
+        absurd (omega arith))))

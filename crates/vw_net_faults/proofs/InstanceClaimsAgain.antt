@@ -66,11 +66,11 @@ module _ (design : Design) (tables : Tables) (are : AreDesignTables design table
   abbrev pub entry : (found : ListedInstance) × (slice_get tables.instances instance ≡ Some found) × IsEntryAt design (instances design) instance path found
   entry = are.placed.each instance path listed
 
-  pub again_is : IsRepeatedClaim design (model_at design path) (again_by tables instance)
-  again_is =
+  pub again_is : (again : Option RepeatedClaim) → again ≡ again_by tables instance → IsRepeatedClaim design (model_at design path) again
+  again_is again is =
       let found = are.claims.each entry.0.model entry.2.model entry.2.model_is in
-      let same : again_by tables instance ≡ found.0.again =
-      ap (option_and_then (λ (e : ListedInstance). option_and_then (λ (claims : ModelClaims). claims.again) (slice_get tables.claims e.model))) entry.1
+      let same : again ≡ found.0.again =
+      is ∙ ap (option_and_then (λ (e : ListedInstance). option_and_then (λ (claims : ModelClaims). claims.again) (slice_get tables.claims e.model))) entry.1
       ∙ ap (option_and_then (λ (claims : ModelClaims). claims.again)) found.1 in
       subst (λ (again : Option RepeatedClaim). IsRepeatedClaim design (model_at design path) again) (sym same)
       (subst (λ (model : Option Model). IsRepeatedClaim design model found.0.again) (sym entry.2.stands) found.2.again)

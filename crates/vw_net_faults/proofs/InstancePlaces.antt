@@ -1,6 +1,8 @@
 -- The places of an instance, up to the root.
-use Rattle.std.proofs.Common.{◌≡◌, ◌<◌, ◌≢◌, ◌++◌, ℕ, List, [], ◌∷◌, Some, slice_get, sym, ◌∙◌, ap, subst, append_assoc, arith}
-use Rattle.std.proofs.lemmas.Option.{same_Some, slice_get_within}
+use Rattle.std.proofs.Common.{◌≡◌, ◌<◌, ◌≢◌, ◌++◌, ℕ, List, [], ◌∷◌, length, Option, Some, None, slice_get, option_map, refl, sym, ◌∙◌, ap, subst, append_assoc, arith}
+use Rattle.std.proofs.lemmas.Option.{same_Some, none-some, slice_get_within}
+use Rattle.std.proofs.Props.{props}
+use mathlib.Core.Logic.{∥∥₁_elim}
 use Rattle.vw_design.specs.declared.design.Design.{Design}
 use Rattle.vw_design.specs.Paths.{Path}
 use Rattle.vw_design.specs.Preorder.{instances}
@@ -8,6 +10,7 @@ use Rattle.vw_design.proofs.PathsOnce.{instance_once}
 use Rattle.vw_design.proofs.ListPlaces.{at_within}
 use Rattle.vw_instances.specs.declared.tables.ListedInstance.{ListedInstance}
 use Rattle.vw_instances.specs.Tables.{ArePlaced, IsEntryAt, IsPlacedBy}
+use Rattle.vw_net_faults.specs.declared.nets.Nets.{Nets}
 
 module _ (design : Design) (table : List ListedInstance) (are : ArePlaced design table) where
   -- the entry of a listed instance
@@ -29,19 +32,20 @@ module _ (design : Design) (table : List ListedInstance) (are : ArePlaced design
   root_first : (k : ℕ) → slice_get (instances design) k ≡ Some [] → k ≡ 0
   root_first k listed = sym (same_Some 0 k (instance_once design k [] listed))
 
-  -- an instance at another number than 0 is placed by its parent, at its place
-  pub one_up : (k : ℕ) (path : Path) (entry : ListedInstance) → slice_get (instances design) k ≡ Some path → slice_get table k ≡ Some entry → k ≢ 0
-      → (rest : Path) × (slice_get (instances design) entry.parent ≡ Some rest) × (path ≡ entry.place ∷ rest)
-  one_up k [] entry listed at some = absurd (some (root_first k listed))
-  one_up k (place ∷ path) entry listed at some =
-      let by : IsPlacedBy (instances design) k (place ∷ path) entry.parent entry.place = (entry_is k (place ∷ path) entry listed at).by in
-      (path, by.1, ap (λ (p : ℕ). p ∷ path) (sym by.0))
-
   -- the places so far, then those of the instance that was reached
-  pub further_up : (k : ℕ) (entry : ListedInstance) → slice_get table k ≡ Some entry → k ≢ 0 → (places : List ℕ) (path rest : Path)
-      → slice_get (instances design) k ≡ Some rest → places ++ rest ≡ path
-      → (new : List ℕ) → new ≡ places ++ (entry.place ∷ [])
-      → (left : Path) × (slice_get (instances design) entry.parent ≡ Some left) × (new ++ left ≡ path)
-  further_up k entry at some places path rest listed is new pushed =
-      let up = one_up k rest entry listed at some in
-      (up.0, up.1, ap (λ (l : List ℕ). l ++ up.0) pushed ∙ append_assoc places (entry.place ∷ []) up.0 ∙ ap (λ (l : Path). places ++ l) (sym up.2) ∙ is)
+  pub further_up : (k : ℕ) (entry : ListedInstance) → slice_get table k ≡ Some entry → k ≢ 0 → (places new : List ℕ) (path : Path)
+      → option_map (λ rest. places ++ rest) (slice_get (instances design) k) ≡ Some path → new ≡ places ++ (entry.place ∷ [])
+      → option_map (λ rest. new ++ rest) (slice_get (instances design) entry.parent) ≡ Some path
+  further_up k entry at some places new path is pushed = by (slice_get (instances design) k) refl is where
+    by : (found : Option Path) → slice_get (instances design) k ≡ found → option_map (λ (rest : Path). places ++ rest) found ≡ Some path
+        → option_map (λ (rest : Path). new ++ rest) (slice_get (instances design) entry.parent) ≡ Some path
+    by None none is = absurd (none-some path is)
+    by (Some []) listed is = absurd (some (root_first k listed))
+    by (Some (place ∷ rest)) listed is =
+        let up : IsPlacedBy (instances design) k (place ∷ rest) entry.parent entry.place = (entry_is k (place ∷ rest) entry listed at).by in
+        ap (option_map (λ (left : Path). new ++ left)) up.1 ∙ ap (λ (list : List ℕ). Some (list ++ rest)) pushed
+        ∙ ap (λ (list : List ℕ). Some list) (append_assoc places (entry.place ∷ []) rest) ∙ ap (λ (p : ℕ). Some (places ++ (p ∷ rest))) up.0 ∙ is
+
+-- there are as many entries as instances
+pub as_many : (nets : Nets) → length nets.tables.now.instances ≡ length (instances nets.design.now)
+as_many nets = ∥∥₁_elim nets.has_tables (hlevel props) (λ are. sym are.placed.same_length)

@@ -1,3 +1,4 @@
+pub mod CellSitesOnce
 pub mod Nets
 pub mod Columns
 pub mod Steps

@@ -1,20 +1,8 @@
--- Tables of nets, and nets as they are printed.
+-- Nets as they are printed.
 use Rattle.std.specs.Prelude.{Option, option_map}
 use Rattle.vw_design.specs.Paths.{Word, Net, printed}
 use Rattle.vw_design.specs.NetFaults.{Unlike, Edged}
-use Rattle.vw_design.specs.Accepted.{HasNoModelFault}
-use Rattle.vw_instances.specs.Tables.{AreCellSites}
-use Rattle.vw_drivers.specs.Tables.{AreDesignTables}
-use Rattle.vw_drivers.specs.Drivers.{AreDrivers}
-use Rattle.vw_net_faults.specs.declared.nets.Nets.{Nets}
 use Rattle.vw_net_faults.specs.declared.nets.Pair.{Pair}
-
--- the tables are those of the design, which has no fault of models
-pub record AreNets (nets : Nets) : Type 0 where
-  pub faultless : HasNoModelFault nets.design.now
-  pub tables : AreDesignTables nets.design.now nets.tables.now
-  pub drivers : AreDrivers nets.design.now nets.tables.now nets.drivers.now
-  pub cells : AreCellSites nets.design.now nets.cells.now
 
 -- a net as it is printed
 abbrev pub printed_net : Option Net → Option Word

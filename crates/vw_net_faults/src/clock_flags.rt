@@ -4,7 +4,6 @@ ghost use Rattle.vw_net.specs.Order.{is_among};
 ghost use Rattle.vw_design.specs.Clocks.{clock_ports};
 ghost use Rattle.vw_drivers.specs.Firsts.{number_named};
 ghost use Rattle.vw_drivers.specs.Tables.{root_firsts};
-ghost use Rattle.vw_net_faults.specs.Nets.{AreNets};
 ghost use Rattle.vw_net_faults.specs.Steps.Wanted.{AreClockFlags};
 
 use crate::nets::Nets;
@@ -15,7 +14,6 @@ use vw_outside::Name;
 impl<'a> Nets<'a> {
     /// For each claim of the root, by its number, whether its name is a clock port.
     pub(crate) fn clock_flags(&self, alloc: Global) -> Result<Vec<bool>, AllocError>
-        requires { AreNets self.now }
         ensures { IfOk result (λ clock_flags. AreClockFlags self.now.design.now
             (root_firsts self.now.tables.now) clock_flags.items) }
     {
@@ -27,7 +25,6 @@ impl<'a> Nets<'a> {
     /// The numbers of the claims of clock ports: of the `.clock` names of the root, and of the ports to which controls
     /// lead.
     fn clock_numbers(&self, alloc: Global) -> Result<Vec<u32>, AllocError>
-        requires { AreNets self.now }
         ensures { IfOk result (λ numbers. numbers.items
             ≡ filter_map (number_named (root_firsts self.now.tables.now))
             (clock_ports self.now.design.now)) }

@@ -6,7 +6,7 @@ ghost use Rattle.vw_design.specs.NetFaults.{gated_clock, several_clocks, clock_a
 ghost use Rattle.vw_drivers.specs.Firsts.{number_named};
 ghost use Rattle.vw_drivers.specs.Tables.{root_firsts};
 ghost use Rattle.vw_net_faults.specs.Steps.Ports.{root_ports};
-ghost use Rattle.vw_net_faults.specs.Nets.{AreNets, printed_net, ports_pair};
+ghost use Rattle.vw_net_faults.specs.Nets.{printed_net, ports_pair};
 
 use crate::nets::{Nets, Pair};
 use crate::ports::{first_port, other_port};
@@ -18,7 +18,6 @@ use vw_outside::Name;
 impl<'a> Nets<'a> {
     /// The first control whose driver is a gate or a latch.
     pub fn gated_clock(&self, alloc: Global) -> Result<Option<Name>, AllocError>
-        requires { AreNets self.now }
         ensures { IfOk result (λ found. found ≡ printed_net (gated_clock self.now.design.now)) }
     {
         let search = Search {
@@ -30,7 +29,6 @@ impl<'a> Nets<'a> {
 
     /// The root port of the first control, and the first other one of another control.
     pub fn several_clocks(&self, alloc: Global) -> Result<Option<Pair>, AllocError>
-        requires { AreNets self.now }
         ensures { IfOk result (λ found. found ≡ ports_pair (several_clocks self.now.design.now)) }
     {
         let ports = self.control_ports(alloc)?;
@@ -46,7 +44,6 @@ impl<'a> Nets<'a> {
 
     /// Two ports of the root by their numbers.
     fn two_ports(&self, alloc: Global, first: u32, other: u32) -> Result<Option<Pair>, AllocError>
-        requires { AreNets self.now }
         ensures { IfOk result (λ found. (one two : Word)
             → has_name (root_ports self.now.design.now) one ≡ true
             → has_name (root_ports self.now.design.now) two ≡ true
@@ -67,7 +64,6 @@ impl<'a> Nets<'a> {
 
     /// The first net that a gate, the data input of a latch or an output of the root reads, and that is a clock port.
     pub fn clock_as_data(&self, alloc: Global) -> Result<Option<Name>, AllocError>
-        requires { AreNets self.now }
         ensures { IfOk result (λ found. found ≡ printed_net (clock_as_data self.now.design.now)) }
     {
         let clock_flags = self.clock_flags(alloc)?;

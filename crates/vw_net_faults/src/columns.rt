@@ -2,7 +2,6 @@
 ghost use Rattle.std.specs.Prelude.{◌≡◌, ◌++◌, ◌∷◌, [], None, false, length, replicate, slice_get, slice_index_or, IfOk, OnOk};
 ghost use Rattle.vw_drivers.specs.Firsts.{number_named};
 ghost use Rattle.vw_drivers.specs.Tables.{root_firsts};
-ghost use Rattle.vw_net_faults.specs.Nets.{AreNets};
 ghost use Rattle.vw_net_faults.specs.Columns.{AreColumns};
 ghost use Rattle.vw_net_faults.specs.Steps.FreeNames.{unflagged, with_column, AreFree};
 
@@ -33,7 +32,6 @@ impl Drop for Columns {
 impl Columns {
     /// The columns of a design. Clock ports are the `.clock` names of the root, and the ports to which controls lead.
     pub fn of(alloc: Global, nets: &Nets) -> Result<Self, AllocError>
-        requires { AreNets nets.now }
         ensures { IfOk result (AreColumns nets.now.design.now
             (root_firsts nets.now.tables.now)) }
     {

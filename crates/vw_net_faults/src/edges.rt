@@ -6,10 +6,9 @@ ghost use Rattle.vw_design.specs.Paths.{Path};
 ghost use Rattle.vw_design.specs.PathValue.{item_at};
 ghost use Rattle.vw_design.specs.Preorder.{instances};
 ghost use Rattle.vw_net_faults.specs.Steps.Edges.{edge_differs, IsTyped, other_edge, first_other};
-ghost use Rattle.vw_net_faults.specs.Nets.{AreNets, latches_pair};
+ghost use Rattle.vw_net_faults.specs.Nets.{latches_pair};
 
 use crate::nets::{Nets, Pair};
-use crate::print::print_net;
 use std::alloc::{AllocError, Global};
 use vw_design::{Edge, Item};
 use vw_instances::CellSite;
@@ -26,7 +25,6 @@ pub(crate) struct Typed<'a> {
 impl<'a> Nets<'a> {
     /// The first latch that writes its type, and the first latch that writes another one.
     pub fn several_edges(&self, alloc: Global) -> Result<Option<Pair>, AllocError>
-        requires { AreNets self.now }
         ensures { IfOk result (λ found. found ≡ latches_pair (several_edges self.now.design.now)) }
     {
         let Some(first) = self.first_typed(Edge::Unsaid) else {
@@ -36,15 +34,13 @@ impl<'a> Nets<'a> {
         let Some(other) = self.first_typed(first.edge) else {
             return Ok(None);
         };
-        let table = self.tables.instances();
-        let first = print_net(alloc, self.design, table, first.instance, first.q)?;
-        let other = print_net(alloc, self.design, table, other.instance, other.q)?;
+        let first = self.printed(alloc, first.instance, first.q)?;
+        let other = self.printed(alloc, other.instance, other.q)?;
         Ok(Some(Pair { first, other }))
     }
 
     /// The first latch that writes a type other than this one.
     fn first_typed(&self, edge: Edge) -> Option<Typed<'a>>
-        requires { AreNets self.now }
         ensures { IsTyped self.now.design.now (first_other self.now.design.now edge) result }
     {
         for cell in self.cells {
@@ -57,14 +53,15 @@ impl<'a> Nets<'a> {
     }
 
     /// The latch of a cell, where it writes a type other than this one.
+    #[tactic(auto, using(crate::proofs::CellItems::item_stands))]
     fn typed_at(&self, cell: CellSite, edge: Edge) -> Option<Typed<'a>>
-        requires { AreNets self.now }
         ensures { (path : Path) (item : Item)
             → slice_get (instances self.now.design.now) cell.instance ≡ Some path
             → item_at self.now.design.now path cell.item ≡ Some item
             → IsTyped self.now.design.now (other_edge edge path item) result }
     {
-        match self.item_found(cell)? {
+        let item = self.item_found(cell)?;
+        match item {
             Item::Latch {
                 q,
                 edge: written,

@@ -1,11 +1,15 @@
-//! Items of cells.
+//! Items of cells, and the claims and drivers of names by numbers.
 ghost use Rattle.std.specs.Prelude.{◌≡◌, option_map, option_and_then, option_to_list, slice_get};
 ghost use Rattle.vw_design.specs.NetReads.{controls_of};
-ghost use Rattle.vw_net_faults.specs.Steps.Items.{lent_item, item_at_site, numbers_by};
 ghost use Rattle.vw_design.specs.Paths.{lent};
+ghost use Rattle.vw_drivers.specs.Drivers.{IsSource};
+ghost use Rattle.vw_drivers.specs.Firsts.{number_named};
+ghost use Rattle.vw_drivers.specs.Tables.{instance_firsts};
+ghost use Rattle.vw_net_faults.specs.Steps.Items.{lent_item, item_at_site, numbers_by};
 
 use crate::nets::Nets;
 use vw_design::Item;
+use vw_drivers::{Source, Tables};
 use vw_instances::CellSite;
 use vw_outside::Name;
 
@@ -28,6 +32,23 @@ impl<'a> Nets<'a> {
         let numbers = names.reads().get(cell.item as usize)?;
         Some(numbers.as_slice())
     }
+
+    /// The driver of the nets of an instance on whose names the first claim has this number.
+    pub(crate) fn source(&self, instance: u32, claim: Option<u32>) -> Option<Source>
+        ensures { IsSource self.now.design.now self.now.tables.now instance claim result }
+    {
+        self.drivers.source(self.tables, instance, claim)
+    }
+}
+
+/// The number of the first claim on a name of an instance. Nothing where there is no such claim, or no such instance. It
+/// takes no memory.
+pub fn claim_number(tables: &Tables, instance: u32, name: &[u8]) -> Option<u32>
+    ensures { result ≡ number_named (instance_firsts tables.now instance) name.now }
+{
+    let entry = tables.instances().get(instance as usize)?;
+    let claims = tables.claims().get(entry.model as usize)?;
+    claims.first(name)
 }
 
 /// The number at a place.

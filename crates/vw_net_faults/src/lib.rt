@@ -16,5 +16,5 @@ mod undriven;
 mod wanted;
 
 pub use columns::Columns;
+pub use items::claim_number;
 pub use nets::{Nets, Pair};
-pub use print::print_net;

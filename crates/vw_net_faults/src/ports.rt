@@ -7,7 +7,6 @@ ghost use Rattle.vw_design.specs.PathValue.{item_at};
 ghost use Rattle.vw_design.specs.Preorder.{instances};
 ghost use Rattle.vw_drivers.specs.Firsts.{number_named};
 ghost use Rattle.vw_drivers.specs.Tables.{root_firsts};
-ghost use Rattle.vw_net_faults.specs.Nets.{AreNets};
 ghost use Rattle.vw_net_faults.specs.Steps.Ports.{port_number, item_ports, is_found_number, root_ports};
 
 use crate::items::{number_in_row, written_control};
@@ -28,15 +27,14 @@ impl<'a> Nets<'a> {
 
     /// The claims of the model of the root.
     pub(crate) fn root_claims(&self) -> &'a ModelClaims
-        requires { AreNets self.now }
         ensures { result.now.firsts ≡ root_firsts self.now.tables.now }
     {
         &self.tables.claims()[0]
     }
 
     /// The port of the root that drives the control of a cell, by the number of its claim.
+    #[tactic(auto, using(crate::proofs::CellItems::item_stands, crate::proofs::CellItems::numbers_stand))]
     fn control_port(&self, cell: CellSite) -> Option<u32>
-        requires { AreNets self.now }
         ensures { (path : Path) (item : Item)
             → slice_get (instances self.now.design.now) cell.instance ≡ Some path
             → item_at self.now.design.now path cell.item ≡ Some item
@@ -47,10 +45,7 @@ impl<'a> Nets<'a> {
         let item = self.item_found(cell)?;
         let numbers = self.numbers_by(cell)?;
         match written_control(item) {
-            Some(_) => port_number(
-                self.drivers
-                    .source(self.tables, cell.instance, number_in_row(numbers, 1)),
-            ),
+            Some(_) => port_number(self.source(cell.instance, number_in_row(numbers, 1))),
             None => None,
         }
     }
@@ -58,7 +53,6 @@ impl<'a> Nets<'a> {
     /// The ports of the root that drive controls, in preorder, by the numbers of their claims: at most one for each
     /// latch.
     pub(crate) fn control_ports(&self, alloc: Global) -> Result<Vec<u32>, AllocError>
-        requires { AreNets self.now }
         ensures { IfOk result (λ ports.
             map (number_named (root_firsts self.now.tables.now)) (control_ports self.now.design.now)
             ≡ map (λ (number : ℕ). Some number) ports.items) }
@@ -74,7 +68,6 @@ impl<'a> Nets<'a> {
 
     /// The port of the root whose claim has a number.
     pub(crate) fn port_named(&self, number: u32) -> Option<&'a Name>
-        requires { AreNets self.now }
         ensures { lent result
             ≡ find (λ name. is_found_number (number_named (root_firsts self.now.tables.now) name) number)
             (root_ports self.now.design.now) }

@@ -2,55 +2,44 @@
 ghost use Rattle.std.specs.Prelude.{◌≡◌, ◌++◌, ℕ, Some, codes, decimal, reverse, flat_map, slice_get, IfOk, OnOk};
 ghost use Rattle.vw_design.specs.Paths.{Path, printed};
 ghost use Rattle.vw_design.specs.Preorder.{instances};
-ghost use Rattle.vw_instances.specs.Tables.{ArePlaced};
 
-use itoa::Buffer;
+use crate::nets::Nets;
 use std::alloc::{AllocError, Global};
-use vw_design::Design;
-use vw_instances::ListedInstance;
 use vw_outside::Name;
+use vw_text::push_number;
 
-/// A net of an instance as it is printed: each place followed by `/`, from the root on, and then the name.
-pub fn print_net(
-    alloc: Global,
-    design: &Design,
-    table: &[ListedInstance],
-    instance: u32,
-    name: &Name,
-) -> Result<Name, AllocError>
-    requires { ArePlaced design.now table.now }
-    ensures { IfOk result (λ text. (path : Path)
-        → slice_get (instances design.now) instance ≡ Some path
-        → text ≡ printed (record { path = path; name = name.now })) }
-{
-    let places = places_of(alloc, design, table, instance)?;
-    let mut text = Vec::new(alloc);
-    push_places(&mut text, places)?;
-    text.extend_from_slice(name.as_slice())?;
-    Ok(Name::of(text))
-}
-
-/// The places of an instance, the last one first.
-fn places_of(
-    alloc: Global,
-    design: &Design,
-    table: &[ListedInstance],
-    instance: u32,
-) -> Result<Vec<u32>, AllocError>
-    requires { ArePlaced design.now table.now }
-    ensures { IfOk result (λ places. (path : Path)
-        → slice_get (instances design.now) instance ≡ Some path → places.items ≡ path) }
-{
-    let mut places = Vec::new(alloc);
-    let mut at = instance;
-    while at != 0 {
-        let Some(entry) = table.get(at as usize) else {
-            return Ok(places);
-        };
-        places.push(entry.place)?;
-        at = entry.parent;
+impl<'a> Nets<'a> {
+    /// A net of an instance as it is printed: each place followed by `/`, from the root on, and then the name.
+    pub fn printed(&self, alloc: Global, instance: u32, name: &Name) -> Result<Name, AllocError>
+        ensures { IfOk result (λ text. (path : Path)
+            → slice_get (instances self.now.design.now) instance ≡ Some path
+            → text ≡ printed (record { path = path; name = name.now })) }
+    {
+        let places = self.places_of(alloc, instance)?;
+        let mut text = Vec::new(alloc);
+        push_places(&mut text, places)?;
+        text.extend_from_slice(name.as_slice())?;
+        Ok(Name::of(text))
     }
-    Ok(places)
+
+    /// The places of an instance, the last one first.
+    fn places_of(&self, alloc: Global, instance: u32) -> Result<Vec<u32>, AllocError>
+        ensures { IfOk result (λ places. (path : Path)
+            → slice_get (instances self.now.design.now) instance ≡ Some path
+            → places.items ≡ path) }
+    {
+        let table = self.tables.instances();
+        let mut places = Vec::new(alloc);
+        let mut at = instance;
+        while at != 0 {
+            let Some(entry) = table.get(at as usize) else {
+                return Ok(places);
+            };
+            places.push(entry.place)?;
+            at = entry.parent;
+        }
+        Ok(places)
+    }
 }
 
 /// Appends places, the last one first, each followed by `/`.
@@ -69,8 +58,7 @@ fn push_place(text: &mut Vec<u8>, place: u32) -> Result<(), AllocError>
     ensures { OnOk result (text.new.items
         ≡ text.old.items ++ (decimal place ++ codes "/")) }
 {
-    let mut buffer = Buffer::new();
-    text.extend_from_slice(buffer.format(place).as_bytes())?;
+    push_number(text, place)?;
     text.push(b'/')?;
     Ok(())
 }

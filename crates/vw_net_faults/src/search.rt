@@ -9,16 +9,14 @@ ghost use Rattle.vw_design.specs.NetReads.{data_of, controls_of};
 ghost use Rattle.vw_drivers.specs.Firsts.{number_named};
 ghost use Rattle.vw_drivers.specs.Names.{reads_of};
 ghost use Rattle.vw_drivers.specs.Tables.{instance_firsts};
-ghost use Rattle.vw_net_faults.specs.Nets.{AreNets, printed_net};
+ghost use Rattle.vw_net_faults.specs.Nets.{printed_net};
 ghost use Rattle.vw_net_faults.specs.Steps.Wanted.{wants, FindsAmong, HasFlagsOf, HasFlagsOf-prop, wanted_names, wanted_among, wanted_read, first_wanted};
 
-use crate::items::{number_in_row, written_control};
+use crate::items::{claim_number, number_in_row, written_control};
 use crate::nets::Nets;
-use crate::print::print_net;
 use crate::wanted::Wanted;
 use std::alloc::{AllocError, Global};
 use vw_design::Item;
-use vw_drivers::ModelClaims;
 use vw_instances::CellSite;
 use vw_outside::Name;
 
@@ -34,19 +32,17 @@ pub(crate) struct Search<'n, 'a> {
 impl<'n, 'a> Search<'n, 'a> {
     /// Whether the nets of an instance on whose names the first claim has this number are looked for.
     fn is_wanted(&self, instance: u32, number: Option<u32>) -> bool
-        requires nets { AreNets self.now.nets.now }
         ensures { (path : Path) (name : Word)
             → slice_get (instances self.now.nets.now.design.now) instance ≡ Some path
             → number ≡ number_named (instance_firsts self.now.nets.now.tables.now instance) name
             → result ≡ wants self.now.nets.now.design.now self.now.wanted.now
             (driver self.now.nets.now.design.now path name) }
     {
-        self.wanted.takes(self.nets.drivers.source(self.nets.tables, instance, number))
+        self.wanted.takes(self.nets.source(instance, number))
     }
 
     /// A name of an instance, where it is looked for.
     fn only(&self, instance: u32, name: &'a Name, number: Option<u32>) -> Option<&'a Name>
-        requires nets { AreNets self.now.nets.now }
         ensures { (path : Path)
             → slice_get (instances self.now.nets.now.design.now) instance ≡ Some path
             → number ≡ number_named (instance_firsts self.now.nets.now.tables.now instance) name.now
@@ -67,7 +63,6 @@ impl<'n, 'a> Search<'n, 'a> {
         names: &'a [Name],
         numbers: &[Option<u32>],
     ) -> Option<&'a Name>
-        requires nets { AreNets self.now.nets.now }
         ensures { FindsAmong self.now.nets.now self.now.wanted.now instance names.now
             numbers.now names.now (lent result) }
     {
@@ -82,7 +77,6 @@ impl<'n, 'a> Search<'n, 'a> {
 
     /// The first name that an item reads as data and that is looked for.
     fn data_found(&self, instance: u32, item: &'a Item, numbers: &[Option<u32>]) -> Option<&'a Name>
-        requires nets { AreNets self.now.nets.now }
         ensures { FindsAmong self.now.nets.now self.now.wanted.now instance (reads_of item.now)
             numbers.now (data_of item.now) (lent result) }
     {
@@ -100,7 +94,6 @@ impl<'n, 'a> Search<'n, 'a> {
         item: &'a Item,
         numbers: &[Option<u32>],
     ) -> Option<&'a Name>
-        requires nets { AreNets self.now.nets.now }
         ensures { FindsAmong self.now.nets.now self.now.wanted.now instance (reads_of item.now)
             numbers.now (controls_of item.now) (lent result) }
     {
@@ -112,7 +105,6 @@ impl<'n, 'a> Search<'n, 'a> {
 
     /// The first name of an item that is looked for.
     fn read_found(&self, instance: u32, item: &'a Item, numbers: &[Option<u32>]) -> Option<&'a Name>
-        requires nets { AreNets self.now.nets.now }
         ensures { FindsAmong self.now.nets.now self.now.wanted.now instance (reads_of item.now)
             numbers.now (wanted_names self.now.wanted.now item.now) (lent result) }
     {
@@ -127,8 +119,8 @@ impl<'n, 'a> Search<'n, 'a> {
     }
 
     /// The first name of the item of a cell that is looked for.
+    #[tactic(auto, using(crate::proofs::CellItems::item_stands, crate::proofs::CellItems::numbers_stand))]
     fn wanted_at(&self, cell: CellSite) -> Option<&'a Name>
-        requires nets { AreNets self.now.nets.now }
         ensures { (path : Path) (item : Item)
             → slice_get (instances self.now.nets.now.design.now) cell.instance ≡ Some path
             → item_at self.now.nets.now.design.now path cell.item ≡ Some item
@@ -143,15 +135,13 @@ impl<'n, 'a> Search<'n, 'a> {
 
     /// The first net that a gate or a latch reads and that is looked for.
     pub(crate) fn wanted_read(&self, alloc: Global) -> Result<Option<Name>, AllocError>
-        requires nets { AreNets self.now.nets.now }
         ensures { IfOk result (λ found. found
             ≡ printed_net (wanted_read self.now.nets.now.design.now self.now.wanted.now)) }
     {
         for cell in self.nets.cells {
             let found = self.wanted_at(*cell);
             if let Some(name) = found {
-                let table = self.nets.tables.instances();
-                let net = print_net(alloc, self.nets.design, table, cell.instance, name)?;
+                let net = self.nets.printed(alloc, cell.instance, name)?;
                 return Ok(Some(net));
             }
         }
@@ -160,24 +150,19 @@ impl<'n, 'a> Search<'n, 'a> {
 
     /// The first output of the root that is looked for.
     fn wanted_output(&self) -> Option<&'a Name>
-        requires nets { AreNets self.now.nets.now }
         ensures { lent result ≡ wanted_among self.now.nets.now.design.now self.now.wanted.now []
             (model_outputs (model_at self.now.nets.now.design.now [])) }
     {
-        let root = self.nets.tables.instances()[0];
-        let claims = &self.nets.tables.claims()[root.model as usize];
-        self.output_among(claims, self.nets.design.models()[0].outputs())
+        self.output_among(self.nets.root().outputs())
     }
 
     /// The first of some names of the root that is looked for.
-    fn output_among(&self, claims: &ModelClaims, names: &'a [Name]) -> Option<&'a Name>
-        requires nets { AreNets self.now.nets.now }
-        requires claims { claims.now.firsts ≡ instance_firsts self.now.nets.now.tables.now 0 }
+    fn output_among(&self, names: &'a [Name]) -> Option<&'a Name>
         ensures { lent result
             ≡ wanted_among self.now.nets.now.design.now self.now.wanted.now [] names.now }
     {
         for name in names {
-            let number = claims.first(name.as_slice());
+            let number = claim_number(self.nets.tables, 0, name.as_slice());
             if self.is_wanted(0, number) {
                 return Some(name);
             }
@@ -187,7 +172,6 @@ impl<'n, 'a> Search<'n, 'a> {
 
     /// The first net that is read and looked for.
     pub(crate) fn first_wanted(&self, alloc: Global) -> Result<Option<Name>, AllocError>
-        requires nets { AreNets self.now.nets.now }
         ensures { IfOk result (λ found. found
             ≡ printed_net (first_wanted self.now.nets.now.design.now self.now.wanted.now)) }
     {
@@ -197,8 +181,7 @@ impl<'n, 'a> Search<'n, 'a> {
         }
         match self.wanted_output() {
             Some(name) => {
-                let table = self.nets.tables.instances();
-                let net = print_net(alloc, self.nets.design, table, 0, name)?;
+                let net = self.nets.printed(alloc, 0, name)?;
                 Ok(Some(net))
             }
             None => Ok(None),

@@ -3,11 +3,10 @@ ghost use Rattle.std.specs.Prelude.{◌≡◌, ◌+◌, Some, length, option_map
 ghost use Rattle.vw_design.specs.NetFaults.{two_drivers};
 ghost use Rattle.vw_design.specs.Paths.{Path};
 ghost use Rattle.vw_design.specs.Preorder.{instances};
-ghost use Rattle.vw_net_faults.specs.Nets.{AreNets, printed_net};
+ghost use Rattle.vw_net_faults.specs.Nets.{printed_net};
 ghost use Rattle.vw_net_faults.specs.Steps.SecondClaims.{again_by, position_by, is_earlier, IsSecondAt, IsFirstSecond};
 
 use crate::nets::Nets;
-use crate::print::print_net;
 use std::alloc::{AllocError, Global};
 use vw_drivers::RepeatedClaim;
 use vw_instances::entries_give_numbers;
@@ -25,13 +24,11 @@ pub(crate) struct Second<'a> {
 impl<'a> Nets<'a> {
     /// The net whose second claim comes first in preorder.
     pub fn two_drivers(&self, alloc: Global) -> Result<Option<Name>, AllocError>
-        requires { AreNets self.now }
         ensures { IfOk result (λ found. found ≡ printed_net (two_drivers self.now.design.now)) }
     {
         match self.first_second() {
             Some(second) => {
-                let table = self.tables.instances();
-                let net = print_net(alloc, self.design, table, second.instance, second.name)?;
+                let net = self.printed(alloc, second.instance, second.name)?;
                 Ok(Some(net))
             }
             None => Ok(None),
@@ -40,7 +37,6 @@ impl<'a> Nets<'a> {
 
     /// The first item of all that claims a name again.
     fn first_second(&self) -> Option<Second<'a>>
-        requires { AreNets self.now }
         ensures { IsFirstSecond self.now.design.now (length self.now.tables.now.instances) result }
     {
         let mut first = None;
@@ -55,7 +51,6 @@ impl<'a> Nets<'a> {
 
     /// The first item of an instance that claims a name again.
     fn second_in(&self, instance: u32) -> Option<Second<'a>>
-        requires { AreNets self.now }
         ensures { (path : Path) → slice_get (instances self.now.design.now) instance ≡ Some path
             → IsSecondAt self.now.design.now path instance result }
     {

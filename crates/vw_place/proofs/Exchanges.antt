@@ -1,5 +1,6 @@
 -- Exchanges of two places of a list of nodes, and tries of several.
-use Rattle.std.proofs.Common.{◌≡◌, ◌<◌, ◌≤◌, ◌+◌, ◌⊎◌, ℕ, List, length, get_or, ap, refl, inl, inr, sym, subst, ◌∙◌, ⊎_elim, eq-eqb, ne_eqb, arith}
+use denote.Ref.{Bor}
+use Rattle.std.proofs.Common.{◌≡◌, ◌<◌, ◌≤◌, ◌+◌, ◌⊎◌, ℕ, List, length, get_or, ap, ap₂, refl, inl, inr, sym, subst, ◌∙◌, ⊎_elim, eq-eqb, ne_eqb, arith}
 use Rattle.std.specs.List.{range_with_len, swap}
 use Rattle.std.proofs.lemmas.Bool.{cases_eq, cases_lt}
 use Rattle.std.proofs.lemmas.List.{ext_get_or, get_or_default, get_or_past}
@@ -9,8 +10,10 @@ use Rattle.std.proofs.lemmas.List.Sorted.{IsPermutation-refl, IsPermutation-swap
 use Rattle.vw_plan.specs.declared.board.Board.{Board}
 use Rattle.vw_plan.specs.Good.{exchanged}
 use Rattle.vw_place.specs.Numbering.{IsNumbering}
-use Rattle.vw_place.specs.Steps.NodeLists.{IsNodeList, renumbered_node}
-use Rattle.vw_place.specs.Steps.Tries.{AreTried, IsBefore, IsBoth, IsOneAndLater}
+use Rattle.vw_place.specs.Steps.NodeLists.{IsNodeList, NumberedBoard, renumbered_node}
+use Rattle.vw_place.specs.Steps.Traffic.{travel_by}
+use Rattle.vw_place.specs.declared.exchange.Exchange.{Exchange}
+use Rattle.vw_place.specs.Steps.Tries.{HasTried, IsBefore, IsBoth, IsOneAndLater}
 use Rattle.vw_place.proofs.Renumbered.{chip_stays, one_to_one}
 
 -- ---- two numbers exchanged
@@ -126,38 +129,42 @@ module _ (board : Board) (at : List ℕ) (nodes : IsNodeList board at) (one othe
       old_nodes = λ node within. nodes.numbering.old_nodes (exchanged first second node) (exchanged_low board.chips first second first_chip.1 second_chip.1 node within);
     }
 
+-- exchanged back, they are as at the start
+pub swapped_back : (nodes new newer : NumberedBoard) (one other : ℕ) → IsNodeList nodes.board nodes.numbers → one ≤ nodes.board.chips → other ≤ nodes.board.chips
+    → new ≡ record nodes { numbers = swap nodes.numbers one other } → newer ≡ record new { numbers = swap new.numbers one other } → newer ≡ nodes
+swapped_back nodes new newer one other list one_low other_low is_new is_newer =
+    let twice = swap_twice nodes.numbers one other (omega (arith, list.long)) (omega (arith, list.long)) in
+    is_newer
+    ∙ ap (λ (swapped : NumberedBoard). record swapped { numbers = swap swapped.numbers one other }) is_new
+    ∙ ap (λ (numbers : List ℕ). record nodes { numbers = numbers }) twice
+
 -- ---- tries
 
-module _ (cost : List ℕ → ℕ) where
-  -- first some, then others
-  pub more_tried : (first later all : ℕ → ℕ → Type 0) (old between new : List ℕ) → AreTried cost first old between → AreTried cost later between new
-      → ((one other : ℕ) → all one other → first one other ⊎ later one other) → AreTried cost all old new
-  more_tried first later all old between new before after cases = record {
-    no_greater = omega (arith, before.no_greater, after.no_greater);
-    same = λ as_long. after.same (later_long as_long) ∙ before.same (first_long as_long);
-    useless = λ as_long one other is.
-        let same : between ≡ old = before.same (first_long as_long) in
-        ⊎_elim (before.useless (first_long as_long) one other) (λ is_later. subst (λ (list : List ℕ). cost list ≤ cost (swap list one other)) same (after.useless (later_long as_long) one other is_later)) (cases one other is);
-  } where
-    first_long : cost new ≡ cost old → cost between ≡ cost old
-    first_long as_long = omega (arith, before.no_greater, after.no_greater)
+-- first some, then others
+pub tried_further : (first later all : ℕ → ℕ → Type 0) (old between new : Exchange) → HasTried first old between → HasTried later between new
+    → ((one other : ℕ) → all one other → first one other ⊎ later one other) → HasTried all old new
+tried_further first later all old between new before after cases = record {
+  table = after.table ∙ before.table;
+  board = after.board ∙ before.board;
+  no_greater = omega (arith, before.no_greater, after.no_greater);
+  same = λ as_long. after.same (later_long as_long) ∙ before.same (first_long as_long);
+  useless = λ as_long one other is.
+      let cost = ap₂ (λ (table : Bor (List ℕ)) (nodes : NumberedBoard). travel_by table.now nodes.board (swap nodes.numbers one other)) before.table (before.same (first_long as_long)) in
+      let if_later = λ (is_later : later one other).
+      let none : old.travel ≤ travel_by old.table.now old.nodes.board (swap old.nodes.numbers one other) = omega (arith, cost, first_long as_long, after.useless (later_long as_long) one other is_later) in none in
+      ⊎_elim (before.useless (first_long as_long) one other) if_later (cases one other is);
+} where
+  first_long : new.travel ≡ old.travel → between.travel ≡ old.travel
+  first_long as_long = omega (arith, before.no_greater, after.no_greater)
 
-    later_long : cost new ≡ cost old → cost new ≡ cost between
-    later_long as_long = omega (arith, before.no_greater, after.no_greater)
+  later_long : new.travel ≡ old.travel → new.travel ≡ between.travel
+  later_long as_long = omega (arith, before.no_greater, after.no_greater)
 
-  -- and one that doesn't
-  pub no_cheaper : (tried : ℕ → ℕ → Type 0) (old new : List ℕ) → new ≡ old → ((one other : ℕ) → tried one other → cost old ≤ cost (swap old one other)) → AreTried cost tried old new
-  no_cheaper tried old new is useless = record { no_greater = omega (arith, ap cost is); same = λ as_long. is; useless = λ as_long. useless }
-
-  -- the one exchange of two places
-  pub useless_one : (at new : List ℕ) (one other old value : ℕ) → new ≡ swap at one other → old ≡ cost at → value ≡ cost new → old ≤ value → (first second : ℕ) → IsBoth one other first second → cost at ≤ cost (swap at first second)
-  useless_one at new one other old value is_new is_old is_value no_less first second is =
-      let same : cost (swap at first second) ≡ cost new = ap (λ (place : ℕ). cost (swap at place second)) is.0 ∙ ap (λ (place : ℕ). cost (swap at one place)) is.1 ∙ ap cost (sym is_new) in
-      omega (arith, same)
-
-  -- fewer of them
-  pub fewer_tried : (tried fewer : ℕ → ℕ → Type 0) (old new : List ℕ) → ((one other : ℕ) → fewer one other → tried one other) → AreTried cost tried old new → AreTried cost fewer old new
-  fewer_tried tried fewer old new some are = record { no_greater = are.no_greater; same = are.same; useless = λ as_long one other is. are.useless as_long one other (some one other is) }
+-- fewer of them
+pub tried_fewer : (tried fewer : ℕ → ℕ → Type 0) (old new : Exchange) → ((one other : ℕ) → fewer one other → tried one other)
+    → HasTried tried old new → HasTried fewer old new
+tried_fewer tried fewer old new some has =
+    record { table = has.table; board = has.board; no_greater = has.no_greater; same = has.same; useless = λ as_long one other is. has.useless as_long one other (some one other is) }
 
 -- one more with each later one
 pub later_cases : (one end first second : ℕ) → IsOneAndLater one (end + 1) first second → IsOneAndLater one end first second ⊎ IsBoth one end first second

@@ -1,5 +1,5 @@
 -- The needed pairs, each of which is between two nodes of the board, and the table of how many there are.
-use Rattle.std.proofs.Common.{◌≡◌, ◌<◌, ◌≤◌, ◌+◌, ◌-◌, ◌*◌, ℕ, zero, suc, Bool, true, false, List, length, map, get_or, set, take, replicate, nat_lt, cond, eqb, ap, sym, subst, ◌∙◌, ⊎_elim, true≢false, eqb-true, eq-eqb, All, arith}
+use Rattle.std.proofs.Common.{◌≡◌, ◌<◌, ◌≤◌, ◌+◌, ◌-◌, ◌*◌, ℕ, zero, suc, Bool, true, false, List, length, map, get_or, set, take, replicate, nat_lt, cond, eqb, ap, refl, sym, subst, ◌∙◌, ⊎_elim, true≢false, eqb-true, eq-eqb, All, arith}
 use Rattle.std.specs.Prelude.{count_by, sum_by}
 use Rattle.std.specs.List.{flat_map, range_with_len}
 use Rattle.std.proofs.lemmas.Bool.{and_from, and_parts, cases_Bool, cases_lt}
@@ -13,7 +13,7 @@ use Rattle.vw_plan.specs.declared.need.Need.{Need}
 use Rattle.vw_net.specs.Lists.{greatest}
 use Rattle.vw_plan.specs.Needs.{needed_nodes, needed_pairs}
 use Rattle.vw_plan.specs.Nets.{is_needed, node_of}
-use Rattle.vw_place.specs.Steps.Traffic.{IsTraffic, goes}
+use Rattle.vw_place.specs.Steps.Traffic.{IsPairTable, IsTraffic, goes}
 use Rattle.vw_place.proofs.Renumbered.{greatest_low, needed_sum}
 use Rattle.vw_net.proofs.SumsOverLists.{length_sum}
 
@@ -75,41 +75,67 @@ few_pairs flat chip_of low =
 
 -- ---- the table
 
--- the numbers of the pairs before a place
+-- the numbers of the pairs before a place, of all needed pairs
 pub record IsCounted (flat : Flat) (chip_of : List ℕ) (needs : List Need) (place : ℕ) (table : List ℕ) : Type 0 where
+  pub chips : All (λ chip. chip ≤ 32) chip_of
+  pub all : needs ≡ needed_pairs flat chip_of
   pub long : length table ≡ 1089
   pub low : All (λ count. count ≤ place) table
   pub counts : (from to : ℕ) → from < 33 → to < 33 → get_or table (from * 33 + to) 0 ≡ count_by (goes flat chip_of from to) (take place needs)
 
-pub one_counted : (flat : Flat) (chip_of : List ℕ) (needs : List Need) (place : ℕ) (table : List ℕ) (default : Need) (home to at value : ℕ)
-    → place < length needs → home ≡ node_of flat chip_of (get_or needs place default).net → to ≡ (get_or needs place default).to → home < 33 → to < 33
-    → at ≡ home * 33 + to → value ≡ get_or table at 0 + 1 → IsCounted flat chip_of needs place table → IsCounted flat chip_of needs (place + 1) (set table at value)
-one_counted flat chip_of needs place table default home to at value within is_home is_to home_within to_within is_at is_value counted = record {
-  long = length-set table at value ∙ counted.long;
-  low = All-set (λ count. count ≤ place + 1) table at value (omega (arith, counted.low at 0 at_within)) (All-weaker (λ count. count ≤ place) (λ count. count ≤ place + 1) (λ count low. omega arith) table counted.low);
-  counts = λ from other from_within other_within.
-      let test = goes flat chip_of from other in
-      let need = get_or needs place default in
-      let before = counted.counts from other from_within other_within in
-      let if_goes = λ (is : test need ≡ true).
-      let parts = and_parts (eqb (node_of flat chip_of need.net) from) (eqb need.to other) is in
-      let from_is : home ≡ from = is_home ∙ eqb-true _ from parts.0 in
-      let to_is : to ≡ other = is_to ∙ eqb-true need.to other parts.1 in
-      let here : from * 33 + other ≡ at = omega arith in
-      get_or-set_at table at (from * 33 + other) value 0 here at_within ∙ is_value ∙ ap (λ (number : ℕ). number + 1) (ap (λ (index : ℕ). get_or table index 0) (sym here) ∙ before) ∙ sym (count_by_more_yes test needs place default within is) in
-      let if_not = λ (is : test need ≡ false).
-      let apart : from * 33 + other ≡ at → ⊥ = λ same.
-      let from_is : from ≡ home = omega arith in
-      let to_is : other ≡ to = omega arith in
-      true≢false (sym (and_from (eqb (node_of flat chip_of need.net) from) (eqb need.to other) (eq-eqb _ from (sym is_home ∙ sym from_is)) (eq-eqb need.to other (sym is_to ∙ sym to_is))) ∙ is) in
-      get_or-set_other table at (from * 33 + other) value 0 apart ∙ before ∙ sym (count_by_more_no test needs place default within is) in
-      ⊎_elim if_goes if_not (cases_Bool (test need));
-} where
-  at_within : at < length table
-  at_within = omega (arith, counted.long)
+module _ {flat : Flat} {chip_of : List ℕ} {needs : List Need} {place : ℕ} {table : List ℕ} (counted : IsCounted flat chip_of needs place table) where
+  -- the next pair has a net of the design, and both of its ends are among 33 nodes
+  pub ends_within : (default : Need) (net : ℕ) → place < length needs → net ≡ (get_or needs place default).net
+      → (net < flat.inputs + length flat.cells) × (node_of flat chip_of net < 33) × ((get_or needs place default).to < 33)
+  ends_within default net within is_net =
+      let pair = subst (λ (list : List Need). All (IsPairWithin flat 32) list) (sym counted.all) (pairs_within flat chip_of 32 counted.chips) place default within in
+      (omega (arith, pair), omega (arith, home_low flat chip_of 32 net counted.chips), omega (arith, pair))
 
-pub none_counted : (flat : Flat) (chip_of : List ℕ) (needs : List Need) (table : List ℕ) (many : ℕ) → many ≡ 1089 → table ≡ replicate many 0 → IsCounted flat chip_of needs 0 table
-none_counted flat chip_of needs table many is_many is_table = record {
+  pub one_counted : (default : Need) (home to value : ℕ) → place < length needs
+      → home ≡ node_of flat chip_of (get_or needs place default).net → to ≡ (get_or needs place default).to
+      → home * 33 + to < length table → value ≡ get_or table (home * 33 + to) 0 + 1 → IsCounted flat chip_of needs (place + 1) (set table (home * 33 + to) value)
+  one_counted default home to value within is_home is_to at_within is_value = record {
+    chips = counted.chips;
+    all = counted.all;
+    long = length-set table at value ∙ counted.long;
+    low = All-set (λ count. count ≤ place + 1) table at value (omega (arith, counted.low at 0 at_within)) (All-weaker (λ count. count ≤ place) (λ count. count ≤ place + 1) (λ count low. omega arith) table counted.low);
+    counts = λ from other from_within other_within.
+        let test = goes flat chip_of from other in
+        let need = get_or needs place default in
+        let before = counted.counts from other from_within other_within in
+        let if_goes = λ (is : test need ≡ true).
+        let parts = and_parts (eqb (node_of flat chip_of need.net) from) (eqb need.to other) is in
+        let from_is : home ≡ from = is_home ∙ eqb-true _ from parts.0 in
+        let to_is : to ≡ other = is_to ∙ eqb-true need.to other parts.1 in
+        let here : from * 33 + other ≡ at = omega arith in
+        get_or-set_at table at (from * 33 + other) value 0 here at_within ∙ is_value ∙ ap (λ (number : ℕ). number + 1) (ap (λ (index : ℕ). get_or table index 0) (sym here) ∙ before) ∙ sym (count_by_more_yes test needs place default within is) in
+        let if_not = λ (is : test need ≡ false).
+        let apart : from * 33 + other ≡ at → ⊥ = λ same.
+        let to_within = (ends_within default need.net within refl).2 in
+        let from_is : from ≡ home = omega (arith, to_within) in
+        let to_is : other ≡ to = omega (arith, to_within) in
+        true≢false (sym (and_from (eqb (node_of flat chip_of need.net) from) (eqb need.to other) (eq-eqb _ from (sym is_home ∙ sym from_is)) (eq-eqb need.to other (sym is_to ∙ sym to_is))) ∙ is) in
+        get_or-set_other table at (from * 33 + other) value 0 apart ∙ before ∙ sym (count_by_more_no test needs place default within is) in
+        ⊎_elim if_goes if_not (cases_Bool (test need));
+  } where
+    at : ℕ
+    at = home * 33 + to
+
+  -- no number is above that of the pairs
+  pub fits_counted : place ≤ length needs → IsPairTable table
+  fits_counted within =
+      let few : place ≤ 2297856 = omega (arith, ap (λ (list : List Need). length list) counted.all, few_pairs flat chip_of counted.chips) in
+      record { long = counted.long; low = All-weaker (λ count. count ≤ place) (λ count. count ≤ 2297856) (λ count low. omega arith) table counted.low }
+
+  pub all_counted : length needs ≤ place → IsTraffic flat chip_of table
+  all_counted whole from to from_within to_within =
+      counted.counts from to from_within to_within ∙ ap (λ (list : List Need). count_by (goes flat chip_of from to) list) (take_all place needs whole ∙ counted.all)
+
+pub none_counted : (flat : Flat) (chip_of : List ℕ) (needs : List Need) (table : List ℕ) (many : ℕ) → All (λ chip. chip ≤ 32) chip_of → needs ≡ needed_pairs flat chip_of
+    → many ≡ 1089 → table ≡ replicate many 0 → IsCounted flat chip_of needs 0 table
+none_counted flat chip_of needs table many chips all is_many is_table = record {
+  chips = chips;
+  all = all;
   long = long ∙ is_many;
   low = λ place default within. let none : get_or table place default ≤ 0 = omega (arith, at place default (omega (arith, long))) in none;
   counts = λ from to from_within to_within. at (from * 33 + to) 0 (omega arith);
@@ -119,16 +145,3 @@ none_counted flat chip_of needs table many is_many is_table = record {
 
   at : (place default : ℕ) → place < many → get_or table place default ≡ 0
   at place default within = ap (λ (list : List ℕ). get_or list place default) is_table ∙ get_or-replicate many place 0 default within
-
--- a pair that is listed
-pub need_within : (flat : Flat) (chip_of : List ℕ) (needs : List Need) (place : ℕ) (default : Need) → All (λ chip. chip ≤ 32) chip_of → needs ≡ needed_pairs flat chip_of → place < length needs → IsPairWithin flat 32 (get_or needs place default)
-need_within flat chip_of needs place default low is_needs within =
-    subst (λ (list : List Need). All (IsPairWithin flat 32) list) (sym is_needs) (pairs_within flat chip_of 32 low) place default within
-
-pub all_counted : (flat : Flat) (chip_of : List ℕ) (needs : List Need) (place : ℕ) (table : List ℕ) → All (λ chip. chip ≤ 32) chip_of → needs ≡ needed_pairs flat chip_of → length needs ≤ place → place ≤ length needs → IsCounted flat chip_of needs place table → IsTraffic flat chip_of table
-all_counted flat chip_of needs place table low is_needs whole within counted =
-    let few : place ≤ 2297856 = omega (arith, ap (λ (list : List Need). length list) is_needs, few_pairs flat chip_of low) in
-    record {
-      fits = record { long = counted.long; low = All-weaker (λ count. count ≤ place) (λ count. count ≤ 2297856) (λ count small. omega arith) table counted.low };
-      counts = λ from to from_within to_within. counted.counts from to from_within to_within ∙ ap (λ (list : List Need). count_by (goes flat chip_of from to) list) (take_all place needs whole ∙ is_needs);
-    }

@@ -152,9 +152,7 @@ module _ (flat : Flat) (board : Board) (at : List ℕ) (nodes : IsNodeList board
       let count : pair_count flat (set (map to chip_of) cell chip) ≡ pair_count flat (set chip_of cell old) = ap (λ (list : List ℕ). pair_count flat list) (sym changed) ∙ count_moved (set chip_of cell old) (All-set (λ number. number ≤ board.chips) chip_of cell old is_old.1 low) in
       omega (arith, count_moved chip_of low, count, no_less)
 
--- what stands at the place of a node
-pub stands : (board : Board) (at : List ℕ) → IsNodeList board at → (node : ℕ) → node ≤ board.chips → get_or at node 0 ≡ renumbered_node at node
-stands board at nodes node within = get_or_default at node 0 node (omega (arith, nodes.long))
-
-pub stands_low : (board : Board) (at : List ℕ) → IsNodeList board at → (node : ℕ) → node ≤ board.chips → get_or at node 0 ≤ board.chips
-stands_low board at nodes node within = omega (arith, stands board at nodes node within, nodes.numbering.nodes node within)
+-- what stands at the place of a node is a node
+pub stands_low : (board : Board) (at : List ℕ) → IsNodeList board at → (node number : ℕ) → node ≤ board.chips → number ≡ get_or at node number → number ≤ board.chips
+stands_low board at nodes node number within is =
+    omega (arith, is, get_or_default at node number node (omega (arith, nodes.long)), nodes.numbering.nodes node within)

@@ -41,7 +41,7 @@ module _ (flat : Flat) (board : Board) (chip_of : List ℕ) (low : All (λ chip.
       let counted = λ (from to : ℕ). count_by (goes flat chip_of from to) needs * between from to in
       let within : All (λ need. (home need < many) × (need.to < many)) needs = All-weaker (IsPairWithin flat board.chips) (λ need. (home need < many) × (need.to < many)) (λ need is. (omega (arith, home_low flat chip_of board.chips need.net low), omega (arith, is.1))) needs (pairs_within flat chip_of board.chips low) in
       let row = λ (from : ℕ) (from_zero : 0 ≤ from) (from_within : from < 0 + many).
-      range_agree (travel_between table board at from) (counted from) 0 many (λ to from_zero to_within. ap (λ (count : ℕ). count * between from to) (traffic.counts from to (omega (arith, board.few_chips)) (omega (arith, board.few_chips)))) in
+      range_agree (travel_between table board at from) (counted from) 0 many (λ to from_zero to_within. ap (λ (count : ℕ). count * between from to) (traffic from to (omega (arith, board.few_chips)) (omega (arith, board.few_chips)))) in
       range_agree (λ from. travel_from table board at from many) (λ from. sum_by (counted from) (range_with_len 0 many)) 0 many row
       ∙ sym (by_numbers home (λ need. need.to) between many needs within)
       ∙ sym (travel_moved flat board at nodes chip_of low)

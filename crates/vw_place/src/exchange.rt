@@ -1,90 +1,89 @@
 //! Exchanges of chips, until none lessens the travel.
-ghost use Rattle.std.specs.Prelude.{◌≡◌, ◌≤◌, ◌<◌, ◌+◌};
-ghost use Rattle.vw_place.specs.Steps.NodeLists.{IsNodeList};
-ghost use Rattle.vw_place.specs.Steps.Traffic.{IsPairTable, travel_by};
-ghost use Rattle.vw_place.specs.Steps.Tries.{AreTried, IsBefore, IsBoth, IsOneAndLater, NoneIsUseful};
+ghost use Rattle.std.specs.Prelude.{◌≡◌};
+ghost use Rattle.vw_place.specs.Steps.Traffic.{travel_by};
 
-use crate::travel::whole_travel;
-use vw_board::Distances;
+use crate::node_list::NodeList;
+use crate::pair_table::PairTable;
 
-/// Exchanges two chips where that lessens the travel, and gives the travel after that.
-fn try_two(
-    table: &[u32],
-    distances: &Distances,
-    at: &mut [u32],
-    old: u64,
-    one: usize,
-    other: usize,
-) -> u64
-    requires table { IsPairTable table.now }
-    requires list { IsNodeList distances.now at.old }
-    requires old { old ≡ travel_by table.now distances.now at.old }
-    requires one { 1 ≤ one }
-    requires other { one < other }
-    requires chip { other ≤ distances.now.chips }
-    ensures list { IsNodeList distances.now at.new }
-    ensures travel { result ≡ travel_by table.now distances.now at.new }
-    ensures tried { AreTried (travel_by table.now distances.now) (IsBoth one other) at.old at.new }
-{
-    at.swap(one, other);
-    let new = whole_travel(table, distances, at);
-    if new < old {
-        return new;
-    }
-    at.swap(one, other);
-    old
+/// The nodes of a board in the best order so far, and how far the needed pairs go by it.
+#[derive(Drop)]
+pub struct Exchange<'a> {
+    /// How many needed pairs go from each node to each other.
+    pub table: &'a PairTable,
+    /// The nodes in the best order so far.
+    pub nodes: NodeList<'a>,
+    /// How far the needed pairs go, with the nodes in this order.
+    travel: u64,
+    ghost is: { travel ≡ travel_by table.now nodes.board nodes.numbers },
 }
 
-/// Tries to exchange a chip with each later one.
-fn try_later(table: &[u32], distances: &Distances, at: &mut [u32], old: u64, one: usize) -> u64
-    requires table { IsPairTable table.now }
-    requires list { IsNodeList distances.now at.old }
-    requires old { old ≡ travel_by table.now distances.now at.old }
-    requires one { 1 ≤ one }
-    requires chip { one ≤ distances.now.chips }
-    ensures list { IsNodeList distances.now at.new }
-    ensures travel { result ≡ travel_by table.now distances.now at.new }
-    ensures tried { AreTried (travel_by table.now distances.now)
-        (IsOneAndLater one (distances.now.chips + 1)) at.old at.new }
-{
-    let mut travel = old;
-    for other in one + 1..at.len() {
-        travel = try_two(table, distances, at, travel, one, other);
-    }
-    travel
-}
+impl<'a> Exchange<'a> {
+    ghost use Rattle.std.specs.Prelude.{◌+◌};
+    ghost use Rattle.vw_plan.specs.Chips.{IsChip};
+    ghost use Rattle.vw_place.specs.Steps.Tries.{HasTried, IsBefore, IsBoth, IsOneAndLater, NoneIsUseful};
 
-/// Tries to exchange each two chips once.
-fn try_each(table: &[u32], distances: &Distances, at: &mut [u32], old: u64) -> u64
-    requires table { IsPairTable table.now }
-    requires list { IsNodeList distances.now at.old }
-    requires old { old ≡ travel_by table.now distances.now at.old }
-    ensures list { IsNodeList distances.now at.new }
-    ensures travel { result ≡ travel_by table.now distances.now at.new }
-    ensures tried { AreTried (travel_by table.now distances.now)
-        (IsBefore (distances.now.chips + 1) (distances.now.chips + 1)) at.old at.new }
-{
-    let mut travel = old;
-    for one in 1..at.len() {
-        travel = try_later(table, distances, at, travel, one);
+    /// An exchange that begins with these nodes.
+    pub fn of(table: &'a PairTable, nodes: NodeList<'a>) -> Self
+        ensures table { result.table.now ≡ table.now }
+        ensures nodes { result.nodes ≡ nodes.entry }
+    {
+        let travel = table.travel(&nodes);
+        Exchange {
+            table,
+            nodes,
+            travel,
+        }
     }
-    travel
-}
 
-/// Exchanges chips until no exchange of two lessens the travel. Each round tries each two of them, and each but the
-/// last lessens the travel.
-pub fn exchange(table: &[u32], distances: &Distances, at: &mut [u32])
-    requires table { IsPairTable table.now }
-    requires list { IsNodeList distances.now at.old }
-    ensures list { IsNodeList distances.now at.new }
-    ensures none { NoneIsUseful (travel_by table.now distances.now) (distances.now.chips + 1) at.new }
-{
-    let mut travel = whole_travel(table, distances, at);
-    loop {
-        let next = try_each(table, distances, at, travel);
-        if next == travel {
+    /// Exchanges two chips where that lessens the travel.
+    fn try_two(&mut self, one: usize, other: usize)
+        requires one { IsChip self.old.nodes.board one }
+        requires other { IsChip self.old.nodes.board other }
+        ensures { HasTried (IsBoth one other) self.old self.new }
+    {
+        self.nodes.swap(one, other);
+        let travel = self.table.travel(&self.nodes);
+        if travel < self.travel {
+            self.travel = travel;
             return;
         }
-        travel = next;
+        self.nodes.swap(one, other);
+    }
+
+    /// Tries to exchange a chip with each later one.
+    fn try_later(&mut self, one: usize)
+        requires { IsChip self.old.nodes.board one }
+        ensures { HasTried (IsOneAndLater one (self.old.nodes.board.chips + 1)) self.old self.new }
+    {
+        for other in one + 1..self.nodes.len() {
+            self.try_two(one, other);
+        }
+    }
+
+    /// Tries to exchange each two chips once.
+    fn try_each(&mut self)
+        ensures { HasTried
+            (IsBefore (self.old.nodes.board.chips + 1) (self.old.nodes.board.chips + 1))
+            self.old self.new }
+    {
+        for one in 1..self.nodes.len() {
+            self.try_later(one);
+        }
+    }
+
+    /// Exchanges chips until no exchange of two lessens the travel. Each round tries each two of them, and each but the
+    /// last lessens the travel.
+    pub fn run(&mut self)
+        ensures board { self.new.nodes.board ≡ self.old.nodes.board }
+        ensures none { NoneIsUseful (travel_by self.old.table.now self.old.nodes.board)
+            (self.old.nodes.board.chips + 1) self.new.nodes.numbers }
+    {
+        loop {
+            let before = self.travel;
+            self.try_each();
+            if self.travel == before {
+                return;
+            }
+        }
     }
 }

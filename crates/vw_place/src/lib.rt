@@ -3,8 +3,9 @@
 #![tactic(auto)]
 
 mod exchange;
+mod node_list;
+mod pair_table;
 mod placement;
-mod traffic;
-mod travel;
+mod placing;
 
-pub use placement::{PlaceRefused, place};
+pub use placing::{PlaceRefused, place};

@@ -9,7 +9,8 @@ use Rattle.vw_plan.specs.declared.wire.Hop.{Hop}
 use Rattle.vw_plan.specs.declared.wire.Wire.{Wire}
 use Rattle.vw_plantext.specs.Content.{Content}
 use Rattle.vw_plantext.specs.Grammar.{head_line, chips_line, hop_line, wire_line, wire_lines, spelling}
-use Rattle.vw_plantext.specs.Steps.Pieces.{with_newline, hops_text, wire_text, wires_text}
+use Rattle.vw_text.specs.Printed.{with_newline}
+use Rattle.vw_plantext.specs.Steps.Pieces.{hops_text, wire_text, wires_text}
 
 hops_text-lines : (hops : List Hop) → hops_text hops ≡ lines_text (map hop_line hops)
 hops_text-lines [] = refl

@@ -3,20 +3,19 @@ ghost use Rattle.std.specs.Prelude.{◌≡◌, ◌++◌, ◌∷◌, [], codes, d
 ghost use Rattle.vw_plan.specs.declared.plan.Plan.{Plan};
 ghost use Rattle.vw_plantext.specs.Content.{content_of};
 ghost use Rattle.vw_plantext.specs.Grammar.{numbers_text, number_line, chips_line, spelling};
-ghost use Rattle.vw_plantext.specs.Steps.Pieces.{with_newline, hops_text, wire_text, wires_text};
+ghost use Rattle.vw_text.specs.Printed.{with_newline};
+ghost use Rattle.vw_plantext.specs.Steps.Pieces.{hops_text, wire_text, wires_text};
 
-use itoa::Buffer;
 use std::alloc::{AllocError, Global};
 use vw_plan::{Hop, Plan, Wire};
+use vw_text::push_number;
 
 /// Appends a number behind a space.
-fn push_number(text: &mut Vec<u8>, number: u64) -> Result<(), AllocError>
+fn push_behind_space(text: &mut Vec<u8>, number: u64) -> Result<(), AllocError>
     ensures { OnOk result (text.new.items ≡ text.old.items ++ 32 ∷ decimal number) }
 {
     text.push(b' ')?;
-    let mut buffer = Buffer::new();
-    text.extend_from_slice(buffer.format(number).as_bytes())?;
-    Ok(())
+    push_number(text, number)
 }
 
 /// Appends a line of a word and numbers.
@@ -26,7 +25,7 @@ fn push_line(text: &mut Vec<u8>, word: &[u8], numbers: &[u64]) -> Result<(), All
 {
     text.extend_from_slice(word)?;
     for number in numbers {
-        push_number(text, *number)?;
+        push_behind_space(text, *number)?;
     }
     text.push(b'\n')?;
     Ok(())
@@ -39,7 +38,7 @@ fn push_chips(text: &mut Vec<u8>, chip_of: &[u32]) -> Result<(), AllocError>
 {
     text.extend_from_slice(b"chips")?;
     for chip in chip_of {
-        push_number(text, u64::from(*chip))?;
+        push_behind_space(text, u64::from(*chip))?;
     }
     text.push(b'\n')?;
     Ok(())

@@ -11,7 +11,7 @@ use Rattle.vw_text.proofs.BitTexts.{shown}
 use Rattle.vw_text.proofs.CutAtByte.{cut_before, cut_behind}
 use Rattle.vw_text.proofs.DecimalDigits.{decimal_without}
 use Rattle.vw_text.proofs.Decimals.{number_of-decimal}
-use Rattle.vw_rows.specs.Trace.{bits_text}
+use Rattle.vw_text.specs.Printed.{bits_text}
 use Rattle.vw_resume.specs.declared.fault.StateFault.{StateFault}
 use Rattle.vw_resume.specs.declared.fault.StateFault.TheVariants.{BadText, WrongLatches, TooManyClocks, NoMemory}
 use Rattle.vw_resume.specs.declared.state.State.{State}

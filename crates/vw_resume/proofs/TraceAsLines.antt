@@ -12,7 +12,8 @@ use Rattle.vw_text.proofs.DecimalDigits.{decimal_without}
 use Rattle.vw_text.proofs.FirstLine.{ends_line, line_first}
 use Rattle.vw_text.proofs.FoundBytes.{HasNo}
 use Rattle.vw_text.proofs.LineTexts.{lines_text-append}
-use Rattle.vw_rows.specs.Trace.{bits_text, rows_text, trace_lines_from, trace_text_from}
+use Rattle.vw_text.specs.Printed.{bits_text}
+use Rattle.vw_rows.specs.Trace.{rows_text, trace_lines_from, trace_text_from}
 use Rattle.vw_resume.specs.Joined.{HasLines}
 
 -- ---- the lines

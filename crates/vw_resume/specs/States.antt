@@ -3,7 +3,7 @@ use Rattle.std.specs.Prelude.{◌≡◌, ◌≢◌, ◌≤◌, ℕ, Bool, true, 
 use Rattle.std.specs.Fmt.{decimal}
 use Rattle.vw_net.specs.declared.limits.TheConstants.{MOST_CELLS}
 use Rattle.vw_rows.specs.declared.limits.TheConstants.{MOST_CLOCKS}
-use Rattle.vw_rows.specs.Trace.{bits_text}
+use Rattle.vw_text.specs.Printed.{bits_text}
 use Rattle.vw_resume.specs.declared.fault.StateFault.{StateFault}
 use Rattle.vw_resume.specs.declared.fault.StateFault.TheVariants.{BadText, WrongLatches, TooManyClocks, NoMemory}
 use Rattle.vw_resume.specs.declared.state.State.{State}

@@ -1,6 +1,5 @@
 //! The state of a run between two clocks, and its text.
-ghost use Rattle.std.specs.Prelude.{◌≡◌, ◌≤◌, ◌++◌, ◌↔◌, length, IfOk, IfErr, OnOk, IsTrue};
-ghost use Rattle.vw_rows.specs.Trace.{bits_text};
+ghost use Rattle.std.specs.Prelude.{◌≡◌, ◌≤◌, ◌↔◌, length, IfOk, IfErr, IsTrue};
 ghost use Rattle.vw_resume.specs.States.{Refuses, Spells, state_text};
 
 use crate::fault::StateFault;
@@ -9,6 +8,7 @@ use crate::reading::read_loosely;
 use std::alloc::{AllocError, Global};
 use vw_net::{Bits, MOST_CELLS};
 use vw_rows::MOST_CLOCKS;
+use vw_text::push_bits;
 
 /// Where a run stands between two clocks.
 #[derive(Drop)]
@@ -19,26 +19,13 @@ pub struct State {
     pub latches: Bits,
 }
 
-/// Appends one character for each bit, or `-` where there is none.
-fn push_bits(text: &mut Vec<u8>, bits: &Bits) -> Result<(), AllocError>
-    ensures { OnOk result (text.new.items ≡ text.old.items ++ bits_text bits.now) }
-{
-    if bits.len() == 0 {
-        return Ok(text.push(b'-')?);
-    }
-    for bit in bits.as_slice() {
-        text.push(if *bit { b'1' } else { b'0' })?;
-    }
-    Ok(())
-}
-
 /// The text of the state with this clock and these latch values. It takes memory for the text.
 pub fn state_text(alloc: Global, clock: u64, latches: &Bits) -> Result<Vec<u8>, AllocError>
     ensures { IfOk result (λ text. text.items ≡ state_text clock latches.now) }
 {
     let count = latches.len();
     let mut text = format!(in alloc; "state 1 {clock} {count} ")?.into_bytes();
-    push_bits(&mut text, latches)?;
+    push_bits(&mut text, latches.as_slice())?;
     text.push(b'\n')?;
     Ok(text)
 }

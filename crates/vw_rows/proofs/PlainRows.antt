@@ -13,7 +13,7 @@ use Rattle.vw_text.proofs.BitTexts.{shown, shown_has_no}
 use Rattle.vw_text.proofs.FoundBytes.{HasNo}
 use Rattle.vw_text.proofs.FirstLine.{line_first}
 use Rattle.vw_rows.specs.Stimulus.{line_words, is_bits, bits_of, row_of_bits, rows_added, last_row, within_run, and_then, behind, rows_of_lines, stimulus_rows}
-use Rattle.vw_rows.specs.Trace.{bits_text}
+use Rattle.vw_text.specs.Printed.{bits_text}
 use Rattle.vw_rows.specs.Written.{rows_written}
 
 -- a test that no character of a text of bits passes

@@ -1,12 +1,8 @@
 -- The text of what a netlist did.
-use Rattle.std.specs.Prelude.{ℕ, ◌+◌, ◌==◌, Bool, List, [], ◌∷◌, ◌++◌, map, length, codes, if◌then◌else◌}
+use Rattle.std.specs.Prelude.{ℕ, ◌+◌, ◌==◌, Bool, List, [], ◌∷◌, ◌++◌, length, codes, if◌then◌else◌}
 use Rattle.std.specs.Fmt.{decimal}
 use Rattle.vw_net.specs.History.{History}
-
--- one character for each bit; a list without bits is written `-`
-abbrev pub bits_text : List Bool → List ℕ
-bits_text [] = codes "-"
-bits_text (bit ∷ bits) = map (λ b. if b then 49 else 48) (bit ∷ bits)
+use Rattle.vw_text.specs.Printed.{bits_text}
 
 -- the numbers of outputs, of probes where there are any, and of latches
 abbrev pub head_text : ℕ → ℕ → ℕ → List ℕ

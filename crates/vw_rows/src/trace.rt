@@ -1,26 +1,13 @@
 ghost use Rattle.std.specs.Prelude.{◌≡◌, ◌≤◌, ◌<◌, ◌+◌, ◌^◌, ◌++◌, ◌∷◌, [], length, map, IfOk, OnOk};
 ghost use Rattle.std.specs.Fmt.{decimal};
-ghost use Rattle.vw_rows.specs.Trace.{bits_text, head_text, clock_text, rows_text, end_text};
+ghost use Rattle.vw_rows.specs.Trace.{head_text, clock_text, rows_text, end_text};
 
 use std::alloc::{AllocError, Global};
 use vw_net::{Bits, Rows};
-
-/// Appends one character for each bit, or `-` where there is none.
-fn push_bits(text: &mut Vec<u8>, bits: &[bool]) -> Result<(), AllocError>
-    ensures { OnOk result (text.new.items ≡ text.old.items ++ bits_text bits.now) }
-{
-    if bits.is_empty() {
-        return Ok(text.push(b'-')?);
-    }
-    for bit in bits {
-        text.push(if *bit { b'1' } else { b'0' })?;
-    }
-    Ok(())
-}
+use vw_text::{push_bits, push_number};
 
 /// Appends the line of one clock.
 fn push_clock(
-    alloc: Global,
     text: &mut Vec<u8>,
     clock: u128,
     outputs: &[bool],
@@ -29,7 +16,7 @@ fn push_clock(
     ensures { OnOk result (text.new.items
         ≡ text.old.items ++ clock_text clock outputs.now latches.now) }
 {
-    text.extend_from_slice(clock.to_string(alloc)?.as_bytes())?;
+    push_number(text, clock)?;
     text.push(b' ')?;
     push_bits(text, outputs)?;
     text.push(b' ')?;
@@ -69,7 +56,6 @@ pub fn trace_rows(
     let mut text = Vec::new(alloc);
     for i in 0..outputs.len() {
         push_clock(
-            alloc,
             &mut text,
             u128::from(first) + i as u128,
             outputs.row(i),

@@ -4,4 +4,5 @@ pub mod Logical
 pub mod WordLines
 pub mod Number
 pub mod PlainLines
+pub mod Printed
 pub mod Reading

@@ -9,6 +9,7 @@ mod line;
 mod message;
 mod numbers;
 mod physical;
+mod print;
 mod reader;
 mod words;
 
@@ -19,4 +20,5 @@ pub use line::Line;
 pub use message::numbered_line;
 pub use numbers::{number, number_in};
 pub use physical::first_line;
+pub use print::{push_bits, push_number};
 pub use reader::{LineReader, lines};

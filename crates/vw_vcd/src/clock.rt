@@ -5,16 +5,15 @@ ghost use Rattle.vw_vcd.specs.Changes.{of_changed, of_each, under};
 ghost use Rattle.vw_vcd.specs.Lines.{lines_of_clock, time_line, value_line};
 
 use crate::changes::{has_change, push_changes, push_values};
-use itoa::Buffer;
 use std::alloc::AllocError;
+use vw_text::push_number;
 
 /// Appends the line of a time.
 pub(crate) fn push_time(text: &mut Vec<u8>, clock: u64) -> Result<(), AllocError>
     ensures { OnOk result (text.new.items ≡ text.old.items ++ (time_line clock ++ 10 ∷ [])) }
 {
-    let mut buffer = Buffer::new();
     text.push(b'#')?;
-    text.extend_from_slice(buffer.format(clock).as_bytes())?;
+    push_number(text, clock)?;
     text.push(b'\n')?;
     Ok(())
 }

@@ -33,17 +33,21 @@ AreFrom design path least = (number position : ℕ) (name : Word) → IsClaimedA
 abbrev pub AreNone : Design → Path → Type 0
 AreNone design path = (number position : ℕ) (name : Word) → IsClaimedAt design path number position name → ⊥
 
+-- some item of an instance, at the place that was found, claims the name again
+abbrev pub HasClaimAt : Design → Path → Second → Type 0
+HasClaimAt design path second = ∥ ((number : ℕ) × IsClaimedAt design path number second.position second.name.now) ∥₁
+
 -- the first item of an instance that claims again, if there is one
 abbrev pub IsSecondAt : Design → Path → ℕ → Option Second → Type 0
 IsSecondAt design path instance None = AreNone design path
 IsSecondAt design path instance (Some second) =
-    (second.instance ≡ instance) × ((number : ℕ) × IsClaimedAt design path number second.position second.name.now) × AreFrom design path second.position
+    (second.instance ≡ instance) × HasClaimAt design path second × AreFrom design path second.position
 
 -- the first one of so many instances
 abbrev pub IsFirstSecond : Design → ℕ → Option Second → Type 0
 IsFirstSecond design count None = (instance : ℕ) (path : Path) → instance < count → slice_get (instances design) instance ≡ Some path → AreNone design path
 IsFirstSecond design count (Some second) =
-    ((path : Path) × (slice_get (instances design) second.instance ≡ Some path) × ((number : ℕ) × IsClaimedAt design path number second.position second.name.now))
+    ((path : Path) × (slice_get (instances design) second.instance ≡ Some path) × HasClaimAt design path second)
     × ((instance : ℕ) (path : Path) → instance < count → slice_get (instances design) instance ≡ Some path → AreFrom design path second.position)
 
 -- whether an item is there and comes before another one

@@ -9,6 +9,11 @@ use Rattle.vw_place.specs.Numbering.{IsNumbering}
 abbrev pub renumbered_node : List ℕ → ℕ → ℕ
 renumbered_node at node = slice_index_or at node node
 
+-- a board with other numbers for its nodes
+pub record NumberedBoard : Type 0 where
+  pub board : Board
+  pub numbers : List ℕ
+
 -- a list of the nodes of a board in some order, as a numbering
 pub record IsNodeList (board : Board) (at : List ℕ) : Type 0 where
   pub long : length at ≡ board.chips + 1

@@ -18,10 +18,10 @@ pub record IsPairTable (table : List ℕ) : Type 0 where
   pub long : length table ≡ 1089
   pub low : All (λ count. count ≤ 2297856) table
 
--- the table of how many needed pairs go from each node to each other
-pub record IsTraffic (flat : Flat) (chip_of table : List ℕ) : Type 0 where
-  pub fits : IsPairTable table
-  pub counts : (from to : ℕ) → from < 33 → to < 33 → slice_index table (from * 33 + to) ≡ count_by (goes flat chip_of from to) (needed_pairs flat chip_of)
+-- a table has how many needed pairs go from each node to each other
+abbrev pub IsTraffic : Flat → List ℕ → List ℕ → Type 0
+IsTraffic flat chip_of table =
+    (from to : ℕ) → from < 33 → to < 33 → slice_index table (from * 33 + to) ≡ count_by (goes flat chip_of from to) (needed_pairs flat chip_of)
 
 -- how far the pairs between two nodes go, with nodes numbered by a list
 abbrev pub travel_between : List ℕ → Board → List ℕ → ℕ → ℕ → ℕ

@@ -1,13 +1,19 @@
 -- Exchanges that are tried one after the other.
 use Rattle.std.specs.Prelude.{◌≡◌, ◌≤◌, ◌<◌, ℕ, List}
 use Rattle.std.specs.List.{swap}
+use Rattle.vw_place.specs.declared.exchange.Exchange.{Exchange}
+use Rattle.vw_place.specs.Steps.Traffic.{travel_by}
 
--- after some exchanges were tried the cost is no greater, and where it is the same, the list is the same, and none of them
--- lowers the cost
-pub record AreTried (cost : List ℕ → ℕ) (tried : ℕ → ℕ → Type 0) (old new : List ℕ) : Type 0 where
-  pub no_greater : cost new ≤ cost old
-  pub same : cost new ≡ cost old → new ≡ old
-  pub useless : cost new ≡ cost old → (one other : ℕ) → tried one other → cost old ≤ cost (swap old one other)
+-- after some exchanges were tried, by the same table and on the same board, the travel is no greater, and where it is the
+-- same, the nodes are the same, and none of them lessens it
+pub record HasTried (tried : ℕ → ℕ → Type 0) (old new : Exchange) : Type 0 where
+  pub table : new.table ≡ old.table
+  pub board : new.nodes.board ≡ old.nodes.board
+  pub no_greater : new.travel ≤ old.travel
+  pub same : new.travel ≡ old.travel → new.nodes ≡ old.nodes
+  pub useless :
+      new.travel ≡ old.travel → (one other : ℕ) → tried one other
+      → old.travel ≤ travel_by old.table.now old.nodes.board (swap old.nodes.numbers one other)
 
 -- these two
 abbrev pub IsBoth : ℕ → ℕ → ℕ → ℕ → Type 0

@@ -3,11 +3,8 @@ use Rattle.std.specs.Prelude.{ℕ, List, [], ◌∷◌, ◌++◌}
 use Rattle.std.specs.List.{flat_map}
 use Rattle.vw_plan.specs.declared.wire.Hop.{Hop}
 use Rattle.vw_plan.specs.declared.wire.Wire.{Wire}
+use Rattle.vw_text.specs.Printed.{with_newline}
 use Rattle.vw_plantext.specs.Grammar.{hop_line, wire_line}
-
--- a line with its end
-abbrev pub with_newline : List ℕ → List ℕ
-with_newline line = line ++ 10 ∷ []
 
 abbrev pub hops_text : List Hop → List ℕ
 hops_text hops = flat_map (λ hop. with_newline (hop_line hop)) hops

@@ -23,14 +23,14 @@ one c = nothing_found pair_of (several_clocks c.args.nets.now.design.now) c.in_o
 pub returns-in-Some : goal.returns-in-Some
 returns-in-Some c =
     let design = c.args.nets.now.design.now in
-    let drivers = c.requires.drivers in
+    let drivers = c.requires in
     let found = printed_is (gated_clock design) c.in-Some.net (sym c.in-Some.is ∙ c.in_ok-net.ensures) in
     (found.0, of_nets design drivers.models (clock_gated found.0) (by_parts drivers.driven drivers.one_driver found.1 refl refl refl), found.2)
 
 pub returns-in-Some-2 : goal.returns-in-Some-2
 returns-in-Some-2 c =
     let design = c.args.nets.now.design.now in
-    let drivers = c.requires.drivers in
+    let drivers = c.requires in
     let ports = c.in-Some-2.ports in
     let clocks : Unlike Word = record { first = ports.first; other = ports.other } in
     let found = unlike_ports_are (several_clocks design) ports (sym c.in-Some-2.is ∙ c.in_ok-ports.ensures) in
@@ -40,7 +40,7 @@ returns-in-Some-2 c =
 pub returns-in-Some-3 : goal.returns-in-Some-3
 returns-in-Some-3 c =
     let design = c.args.nets.now.design.now in
-    let drivers = c.requires.drivers in
+    let drivers = c.requires in
     let at = goal.at.returns-in-Some-3 c in
     let found = latches_are (several_edges design) c.in-Some-3.latches (sym c.in-Some-3.is ∙ c.in_ok-latches.ensures) in (
       found.latches,
@@ -52,7 +52,7 @@ returns-in-Some-3 c =
 pub returns-in-Some-4 : goal.returns-in-Some-4
 returns-in-Some-4 c =
     let design = c.args.nets.now.design.now in
-    let drivers = c.requires.drivers in
+    let drivers = c.requires in
     let at = goal.at.returns-in-Some-4 c in
     let edge = nothing_found latches_of (several_edges design) c.in_ok-latches.field-0 c.in_ok-latches.ensures c.in_default-3.is in
     let found = printed_is (clock_as_data design) c.in-Some-4.net (sym c.in-Some-4.is ∙ c.in_ok-net-2.ensures) in
@@ -61,7 +61,7 @@ returns-in-Some-4 c =
 pub returns : goal.returns
 returns c =
     let design = c.args.nets.now.design.now in
-    let drivers = c.requires.drivers in
+    let drivers = c.requires in
     let at = goal.at.returns c in
     record {
       models = drivers.models;

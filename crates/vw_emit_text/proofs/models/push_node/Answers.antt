@@ -20,7 +20,7 @@ returns c =
       c.in_ok-extend_from_slice.ensures.items,
       (
         _,
-        c.in_ok-push_digits.ensures ∙ ap (λ (number : ℕ). c.extend_from_slice.new.self.items ++ decimal number) c.from.ensures,
+        c.in_ok-push_number.ensures ∙ ap (λ (number : ℕ). c.extend_from_slice.new.self.items ++ decimal number) c.from.ensures,
         (
           _,
           c.in_ok-extend_from_slice-2.ensures.items,

@@ -13,5 +13,5 @@ returns c =
     let node = c.args.node in
     let old = c.args.text.now.items in
     grown old (codes ".subckt node") (decimal node ∷ ports_text true (node_inputs planned node) ∷ ports_text true (node_outputs planned node) ∷ (10 ∷ []) ∷ []) c.push.new.self.items
-    (_, c.in_ok-extend_from_slice.ensures.items, (_, c.in_ok-push_digits.ensures ∙ ap (λ (number : ℕ). c.extend_from_slice.new.self.items ++ decimal number) c.from.ensures, (_, c.in_ok-push_inputs.ensures, (_, c.in_ok-push_outputs.ensures, c.in_ok-push.ensures.items))))
+    (_, c.in_ok-extend_from_slice.ensures.items, (_, c.in_ok-push_number.ensures ∙ ap (λ (number : ℕ). c.extend_from_slice.new.self.items ++ decimal number) c.from.ensures, (_, c.in_ok-push_inputs.ensures, (_, c.in_ok-push_outputs.ensures, c.in_ok-push.ensures.items))))
     ∙ ap (λ (written : List ℕ). old ++ written) (placed_pieces planned node)

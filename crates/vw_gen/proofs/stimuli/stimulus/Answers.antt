@@ -17,9 +17,9 @@ loop-row-preserved c =
     let start = c.args.n + 1 in
     let row = c.loop-row._row in
     let text = c.loop-row.text.items in (
-      range_more (λ (number : ℕ). drawn_bits start (8 * number) ++ 10 ∷ []) row 300 text c.push_bits.new.text.items _ c.loop-row-test.true
-          (c.in_ok-push_bits.ensures.text ∙ ap (λ (bits : List ℕ). text ++ (bits ++ 10 ∷ [])) (bits_moved start (8 * row) c.loop-row.draws c.loop-row.invariant.1)) c.loop-row.invariant.0,
-      c.in_ok-push_bits.ensures.draws ∙ drawn_state-row start row c.loop-row.draws c.loop-row.invariant.1,
+      range_more (λ (number : ℕ). drawn_bits start (8 * number) ++ 10 ∷ []) row 300 text c.push_row.new.text.items _ c.loop-row-test.true
+          (c.in_ok-push_row.ensures.text ∙ ap (λ (bits : List ℕ). text ++ (bits ++ 10 ∷ [])) (bits_moved start (8 * row) c.loop-row.draws c.loop-row.invariant.1)) c.loop-row.invariant.0,
+      c.in_ok-push_row.ensures.draws ∙ drawn_state-row start row c.loop-row.draws c.loop-row.invariant.1,
     )
 
 pub returns : goal.returns

@@ -2,7 +2,8 @@ use Rattle.std.proofs.Common.{◌≡◌, ◌++◌, ℕ, List, ap, ◌∙◌, rul
 use Rattle.std.specs.Prelude.{codes}
 use Rattle.vw_plantext.specs.Content.{content_of}
 use Rattle.vw_plantext.specs.Grammar.{head_line, chips_line}
-use Rattle.vw_plantext.specs.Steps.Pieces.{with_newline, wires_text}
+use Rattle.vw_text.specs.Printed.{with_newline}
+use Rattle.vw_plantext.specs.Steps.Pieces.{wires_text}
 use Rattle.vw_plantext.proofs.Printed.{spelling-pieces}
 use Rattle.vw_plantext.proofs.writer.print.Goals as goal
 

@@ -8,7 +8,7 @@ use Rattle.vw_plantext.proofs.writer.push_chips.Goals as goal
 pub loop-chip-preserved : goal.loop-chip-preserved
 loop-chip-preserved c =
     let text = c.loop-chip.text.items in
-    one_written (λ (number : ℕ). 32 ∷ decimal number) c.args.chip_of.now c.loop-chip.chip-index text c.push_number.new.text.items _ 0 c.loop-chip-test.true (c.in_ok-push_number.ensures ∙ ap (λ (number : ℕ). text ++ 32 ∷ decimal number) c.from.ensures) c.loop-chip.invariant
+    one_written (λ (number : ℕ). 32 ∷ decimal number) c.args.chip_of.now c.loop-chip.chip-index text c.push_behind_space.new.text.items _ 0 c.loop-chip-test.true (c.in_ok-push_behind_space.ensures ∙ ap (λ (number : ℕ). text ++ 32 ∷ decimal number) c.from.ensures) c.loop-chip.invariant
 
 pub returns : goal.returns
 returns c =

@@ -5,7 +5,7 @@ use Rattle.vw_text.proofs.WrittenPieces.{whole_written, line_written, one_writte
 use Rattle.vw_plantext.proofs.writer.push_line.Goals as goal
 
 pub loop-number-preserved : goal.loop-number-preserved
-loop-number-preserved c = one_written (λ (number : ℕ). 32 ∷ decimal number) c.args.numbers.now c.loop-number.number-index c.loop-number.text.items c.push_number.new.text.items _ 0 c.loop-number-test.true c.in_ok-push_number.ensures c.loop-number.invariant
+loop-number-preserved c = one_written (λ (number : ℕ). 32 ∷ decimal number) c.args.numbers.now c.loop-number.number-index c.loop-number.text.items c.push_behind_space.new.text.items _ 0 c.loop-number-test.true c.in_ok-push_behind_space.ensures c.loop-number.invariant
 
 pub returns : goal.returns
 returns c =

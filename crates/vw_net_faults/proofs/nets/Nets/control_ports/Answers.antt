@@ -14,7 +14,7 @@ loop-cell-preserved c =
     let root = root_firsts c.args.self.now.tables.now in
     let i = c.loop-cell.cell-index in
     let ports = c.loop-cell.ports.items in
-    let is : IsHere design i (get_or c.args.self.now.cells.now i no_cell) = here design c.args.self.now.cells.now c.requires.cells i c.loop-cell-test.true in
+    let is : IsHere design i (get_or c.args.self.now.cells.now i no_cell) = here c.args.self.now i c.loop-cell-test.true in
     let rest = of_cells design (drop (i + 1) (cells design)) in
     let far = ap (λ (list : List Site). somes ports ++ map (number_named root) (of_cells design list)) (sym is.cut) ∙ c.loop-cell.invariant in
     elim c.match-control_port.branch [
@@ -32,5 +32,5 @@ returns c =
     let root = root_firsts c.args.self.now.tables.now in
     let ports = c.loop-cell.ports.items in
     ap (map (number_named root)) (ports_are design) ∙ sym c.loop-cell.invariant
-    ∙ ap (λ (list : List Site). somes ports ++ map (number_named root) (of_cells design list)) (past design c.args.self.now.cells.now c.requires.cells c.loop-cell.cell-index c.loop-cell-test.false)
+    ∙ ap (λ (list : List Site). somes ports ++ map (number_named root) (of_cells design list)) (past c.args.self.now c.loop-cell.cell-index c.loop-cell-test.false)
     ∙ append-nil (somes ports)

@@ -4,6 +4,7 @@ use Rattle.vw_design.proofs.ListPlaces.{at_within}
 use Rattle.vw_instances.specs.declared.tables.ListedInstance.{ListedInstance}
 use Rattle.vw_net_faults.specs.declared.two_drivers.Second.{Second}
 use Rattle.vw_net_faults.specs.Steps.SecondClaims.{IsFirstSecond}
+use Rattle.vw_net_faults.proofs.InstancePlaces.{as_many}
 use Rattle.vw_net_faults.proofs.FirstAgain.{taken, kept}
 use Rattle.vw_net_faults.proofs.nets.Nets.first_second.Goals as goal
 use Rattle.vw_net_faults.proofs.nets.Nets.first_second.Goals.{then-comes_first, else-comes_first}
@@ -13,7 +14,7 @@ loop-instance-preserved c =
     let design = c.args.self.now.design.now in
     let i = c.loop-instance.instance in
     let many : length c.instances.result.now ≡ length c.args.self.now.tables.now.instances = ap (λ (list : List ListedInstance). length list) c.instances.ensures in
-    let within : i < length (instances design) = omega (arith, c.loop-instance-test.true, many, c.requires.tables.placed.same_length) in
+    let within : i < length (instances design) = omega (arith, c.loop-instance-test.true, many, as_many c.args.self.now) in
     let path = at_within (instances design) i within in
     let found = c.second_in-found.result in
     let is = c.second_in-found.ensures path.0 path.1 in

@@ -13,7 +13,7 @@ returns-in-Some c =
     let wanted = c.args.self.now.wanted.now in
     let i = c.loop-cell.cell-index in
     let cell = get_or c.args.self.now.nets.now.cells.now i no_cell in
-    let is : IsHere design i cell = here design c.args.self.now.nets.now.cells.now c.requires.nets.cells i c.loop-cell-test.true in
+    let is : IsHere design i cell = here c.args.self.now.nets.now i c.loop-cell-test.true in
     ap (λ (n : _). Some n) (c.in_ok-net.ensures is.site.path is.listed)
     ∙ ap printed_net (found_here design (λ (net : Net). wants design wanted (driver design net.path net.name)) (λ (site : Site). wanted_names wanted site.item) i cell is c.loop-cell.invariant
     c.in-Some.name.now (c.in-Some.ensures is.site.path is.site.item is.listed is.item_is))
@@ -24,7 +24,7 @@ loop-cell-preserved c =
     let wanted = c.args.self.now.wanted.now in
     let i = c.loop-cell.cell-index in
     let cell = get_or c.args.self.now.nets.now.cells.now i no_cell in
-    let is : IsHere design i cell = here design c.args.self.now.nets.now.cells.now c.requires.nets.cells i c.loop-cell-test.true in
+    let is : IsHere design i cell = here c.args.self.now.nets.now i c.loop-cell-test.true in
     nothing_here design (λ (net : Net). wants design wanted (driver design net.path net.name)) (λ (site : Site). wanted_names wanted site.item) i cell is c.loop-cell.invariant
     (c.in_default.ensures is.site.path is.site.item is.listed is.item_is)
 
@@ -33,4 +33,4 @@ returns c =
     let design = c.args.self.now.nets.now.design.now in
     let wanted = c.args.self.now.wanted.now in
     ap printed_net (sym (ap (of_cells design (λ (net : Net). wants design wanted (driver design net.path net.name)) (λ (site : Site). wanted_names wanted site.item))
-    (past design c.args.self.now.nets.now.cells.now c.requires.nets.cells c.loop-cell.cell-index c.loop-cell-test.false)) ∙ c.loop-cell.invariant)
+    (past c.args.self.now.nets.now c.loop-cell.cell-index c.loop-cell-test.false)) ∙ c.loop-cell.invariant)

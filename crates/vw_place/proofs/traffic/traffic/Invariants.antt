@@ -1,6 +1,0 @@
--- the pairs so far are counted
-use Rattle.vw_place.proofs.PairTables.{IsCounted}
-use Rattle.vw_place.proofs.traffic.traffic.Given as goal
-
-abbrev pub invariant-loop-need : goal.invariant-loop-need
-invariant-loop-need l = IsCounted l.flat l.chip_of l.needs l.need-index l.table.items
