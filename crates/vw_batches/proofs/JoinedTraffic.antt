@@ -5,9 +5,13 @@ use Rattle.std.proofs.Math.Path.{fun_ext}
 use Rattle.vw_net.specs.History.{next_state, state_after}
 use Rattle.vw_plan.specs.declared.checked.Checked.{Checked}
 use Rattle.vw_plan.specs.PlannedBoard.{PlannedBoard, planned_board}
+use Rattle.vw_prog.specs.declared.job.Job.{Job}
 use Rattle.vw_prog.specs.declared.word.Word.{Word}
 use Rattle.vw_prog.specs.Fabric.{Carried}
+use Rattle.vw_prog.specs.Scripts.{planned_of}
 use Rattle.vw_prog.specs.Timetable.{passes}
+use Rattle.vw_trace.specs.Engines.{SeenEngine, engine_after}
+use Rattle.vw_batches.specs.Runs.{engine_of}
 use Rattle.vw_batches.specs.Traffic.{clock_word, words_from, grown_by, after_rows}
 
 -- the words of some rows, and then of others
@@ -49,14 +53,14 @@ module _ (planned : PlannedBoard) (first : ℕ) (state : List Bool) where
       (words_from planned link (first + length rows) (state_after planned.ordered.flat state rows) more)
       ∙ ap (λ (words : List Word). so_far link ++ words) (sym (words_join planned link first state rows more))))
 
--- the same for a plan and a number of workers that stay
-pub after_further_rows : (workers others : ℕ) → others ≡ workers → (checked other : Checked) → other ≡ checked → (first : ℕ) (state : List Bool) (rows more : List (List Bool)) (links between after : Carried)
-    → between ≡ after_rows workers (planned_board checked.ordered checked.board checked.plan) first state rows links
-    → after ≡ after_rows others (planned_board other.ordered other.board other.plan) (first + length rows) (state_after checked.ordered.flat state rows) more between
-    → after ≡ after_rows workers (planned_board checked.ordered checked.board checked.plan) first state (rows ++ more) links
-after_further_rows workers others same_workers checked other same first state rows more links between after one two =
-    let last = state_after checked.ordered.flat state rows in
+-- the same for a board that stands behind the first rows, with as many workers
+pub carried_further : (workers others : ℕ) → others ≡ workers → (job other : Job) → other.checked ≡ job.checked → (rows more : List (List Bool)) → engine_of other ≡ engine_after (engine_of job) rows
+    → (links between after : Carried) → between ≡ after_rows workers (planned_of job) job.first job.start rows links → after ≡ after_rows others (planned_of other) other.first other.start more between
+    → after ≡ after_rows workers (planned_of job) job.first job.start (rows ++ more) links
+carried_further workers others same_workers job other same rows more stands links between after one two =
+    let planned = planned_of job in
     two
-    ∙ ap₂ (λ (n : ℕ) (carried : Carried). after_rows n (planned_board other.ordered other.board other.plan) (first + length rows) last more carried) same_workers one
-    ∙ ap (λ (by : Checked). after_rows workers (planned_board by.ordered by.board by.plan) (first + length rows) last more (after_rows workers (planned_board checked.ordered checked.board checked.plan) first state rows links)) same
-    ∙ more_grown (planned_board checked.ordered checked.board checked.plan) first state rows more (ltb workers 2) links
+    ∙ ap₂ (λ (n : ℕ) (by : Checked). after_rows n (planned_board by.ordered by.board by.plan) other.first other.start more between) same_workers same
+    ∙ ap (λ (e : SeenEngine). after_rows workers planned e.clock e.state more between) stands
+    ∙ ap (after_rows workers planned (job.first + length rows) (state_after planned.ordered.flat job.start rows) more) one
+    ∙ more_grown planned job.first job.start rows more (ltb workers 2) links

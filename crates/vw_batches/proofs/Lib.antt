@@ -1,2 +1,4 @@
 pub mod JoinedTraffic
 pub mod LinkWords
+pub mod OtherRecords
+pub mod StartedBoards

@@ -77,6 +77,6 @@ job_carried workers more job same is before between after unchanged grown =
     ∙ ap (λ (scripts : Option (ℕ → List Word)). grown_by scripts before) (sym (many_workers workers (λ link. words_from (planned_of job) link job.first job.start job.rows) more))
 
 -- one worker carries nothing
-pub none_carried : (workers : ℕ) → workers < 2 → (job : Job) (links : Carried) → links ≡ after_rows workers (planned_of job) job.first job.start job.rows links
-none_carried workers few job links =
-    ap (λ (scripts : Option (ℕ → List Word)). grown_by scripts links) (sym (one_worker workers (λ link. words_from (planned_of job) link job.first job.start job.rows) few))
+pub none_carried : (workers : ℕ) → workers < 2 → (planned : PlannedBoard) (first : ℕ) (state : List Bool) (rows : List (List Bool)) (links after : Carried) → after ≡ links → after ≡ after_rows workers planned first state rows links
+none_carried workers few planned first state rows links after same =
+    same ∙ ap (λ (scripts : Option (ℕ → List Word)). grown_by scripts links) (sym (one_worker workers (λ link. words_from planned link first state rows) few))

@@ -1,22 +1,18 @@
 -- What a run of a board leaves. Source: this project.
-use Rattle.std.specs.Prelude.{◌+◌, ℕ, Bool, List, length, Result}
-use Rattle.vw_plan.specs.PlannedBoard.{PlannedBoard}
+use Rattle.std.specs.Prelude.{ℕ, Result, Ok, Err}
 use Rattle.vw_prog.specs.declared.job.Job.{Job}
-use Rattle.vw_prog.specs.Fabric.{Carried}
 use Rattle.vw_trace.specs.declared.fault.RunFault.{RunFault}
-use Rattle.vw_trace.specs.Streamed.{EndsAt}
-use Rattle.vw_batches.specs.Traffic.{HaveCarried}
+use Rattle.vw_trace.specs.Engines.{SeenEngine}
 
--- a board that runs, as contracts see it: the job that it has run last
+-- a board, as contracts see it: the job that it has at hand, which begins where the board stands
 pub record SeenRun : Type 0 where
   pub job : Job
 
--- the number of the clock behind those of a job, counted from 0
-abbrev pub next_clock : Job → ℕ
-next_clock job = job.first + length job.rows
+-- a board at the start of a job, as an engine
+abbrev pub engine_of : Job → SeenEngine
+engine_of job = record { netlist = job.checked.ordered.flat; clock = job.first; state = job.start }
 
--- the links have carried the words of some rows, from a clock and latch values on; and after a success there are as many rows
--- as this, and these are the latch values after them
-abbrev pub HaveRun : ℕ → PlannedBoard → ℕ → List Bool → Carried → Carried → ℕ → List Bool → Result (Unit {0}) RunFault → List (List Bool) → Type 0
-HaveRun workers planned first state before after clocks last answer rows =
-    HaveCarried workers planned first state before after rows × EndsAt planned.ordered.flat state clocks last answer rows
+-- an answer, whatever the number of clocks
+abbrev pub without_count : Result ℕ RunFault → Result (Unit {0}) RunFault
+without_count (Ok clocks) = Ok tt
+without_count (Err fault) = Err fault

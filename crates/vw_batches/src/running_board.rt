@@ -1,22 +1,21 @@
 //! A planned design that is ready to run on its board.
 ghost use Rattle.std.specs.Prelude.{◌≡◌, ◌+◌, ◌<◌, ◌^◌, length, IfOk};
 ghost use Rattle.std.specs.List.{All};
-ghost use Rattle.vw_net.specs.Cells.{latch_count};
+ghost use Rattle.vw_net.specs.Cells.{latch_count, start_values};
 ghost use Rattle.vw_net.specs.History.{outputs_of, state_after, states_of};
 ghost use Rattle.vw_prog.specs.Actions.{ArePrograms};
 ghost use Rattle.vw_prog.specs.Scripts.{planned_of};
-ghost use Rattle.vw_batches.specs.Runs.{next_clock};
 
 use std::alloc::{AllocError, Global};
 use std::marker::Model;
-use std::mem::replace;
 use vw_net::{Bits, Flat, Rows};
 use vw_plan::Checked;
 use vw_prog::{Answer, Job, Programs};
 use vw_trace::{Batch, Engine};
 use vw_world::World;
 
-/// A board with the programs of its nodes, and the job that it has run last. Contracts see the job.
+/// A board with the programs of its nodes, and the job that it has at hand: that of the next clocks, without rows until they
+/// are worked out. Contracts see the job.
 pub struct RunningBoard {
     programs: Programs,
     job: Job,
@@ -44,43 +43,72 @@ impl Model for RunningBoard {
 }
 
 impl RunningBoard {
-    /// The board of a planned design, which hasn't run. It takes memory for the programs of all nodes, and for a bit for
-    /// each latch.
-    pub fn make(alloc: Global, checked: Checked) -> Result<Self, AllocError>
+    /// The board of a planned design before the clock with this number, counted from 0, where the latches have these values. It
+    /// takes memory for the programs of all nodes.
+    pub fn make(
+        alloc: Global,
+        checked: Checked,
+        clock: u64,
+        state: Bits,
+    ) -> Result<Self, AllocError>
+        requires clock { clock < 2 ^ 32 }
+        requires latches { length state ≡ latch_count checked.ordered.flat.cells }
         ensures checked { IfOk result (λ board. board.job.checked ≡ checked) }
-        ensures unstarted { IfOk result (λ board. next_clock board.job ≡ 0) }
+        ensures clock { IfOk result (λ board. board.job.first ≡ clock) }
+        ensures state { IfOk result (λ board. board.job.start ≡ state) }
     {
         let programs = Programs::build(alloc, &checked)?;
-        let start = checked.ordered().flat().start(alloc, false)?;
         let rows = Rows::new(alloc);
         Ok(RunningBoard {
             programs,
-            job: Job::make(checked, 0, start, rows),
+            job: Job::make(checked, clock, state, rows),
         })
     }
 
-    /// Lets its next clock have this number, counted from 0. It takes no memory.
-    pub fn number_from(&mut self, alloc: Global, clock: u64)
-        requires { clock < 2 ^ 32 }
-        ensures checked { self.new.job.checked ≡ self.old.job.checked }
-        ensures next { next_clock self.new.job ≡ clock }
+    /// The board of a planned design before its first clock, where free latches start at `unknown`. It takes memory as `make`
+    /// does, and for a bit for each latch.
+    pub fn start(alloc: Global, checked: Checked, unknown: bool) -> Result<Self, AllocError>
+        ensures checked { IfOk result (λ board. board.job.checked ≡ checked) }
+        ensures clock { IfOk result (λ board. board.job.first ≡ 0) }
+        ensures state { IfOk result (λ board. board.job.start
+            ≡ start_values unknown checked.ordered.flat.cells) }
     {
-        self.job.stand_before(alloc, clock);
+        let state = checked.ordered().flat().start(alloc, unknown)?;
+        Self::make(alloc, checked, 0, state)
     }
 
-    /// Makes these rows its job: they are those of its next clocks. The start bits are taken out of `state`. It takes no
-    /// memory.
-    pub fn take_job(&mut self, alloc: Global, rows: Rows, state: &mut Bits)
+    /// Gives its job these rows, those of the next clocks. It takes no memory.
+    pub fn take_rows(&mut self, rows: Rows)
         requires columns { All (λ row. length row ≡ self.old.job.checked.ordered.flat.inputs) rows }
-        requires latches { length state.old ≡ latch_count self.old.job.checked.ordered.flat.cells }
-        requires few { next_clock self.old.job + length rows < 2 ^ 32 }
+        requires few { self.old.job.first + length rows < 2 ^ 32 }
         ensures checked { self.new.job.checked ≡ self.old.job.checked }
-        ensures first { self.new.job.first ≡ next_clock self.old.job }
-        ensures start { self.new.job.start ≡ state.old }
+        ensures first { self.new.job.first ≡ self.old.job.first }
+        ensures start { self.new.job.start ≡ self.old.job.start }
         ensures rows { self.new.job.rows ≡ rows }
     {
-        let start = replace(state, Bits::of(Vec::new(alloc)));
-        self.job.renew(self.job.next(), start, rows);
+        self.job.rows = rows;
+    }
+
+    /// Has the next job at hand, now that its job has come to this, and hands on what that was. It takes no memory.
+    pub fn go_past(&mut self, alloc: Global, answer: Answer) -> Batch
+        requires { let job = self.old.job in
+            answer.last ≡ state_after job.checked.ordered.flat job.start job.rows }
+        ensures checked { self.new.job.checked ≡ self.old.job.checked }
+        ensures first { self.new.job.first ≡ self.old.job.first + length self.old.job.rows }
+        ensures start { self.new.job.start ≡ answer.last }
+        ensures outputs { result.outputs ≡ answer.outputs }
+        ensures states { result.states ≡ answer.latches }
+    {
+        let Answer {
+            outputs,
+            latches,
+            last,
+        } = answer;
+        self.job.renew(self.job.next(), last, Rows::new(alloc));
+        Batch {
+            outputs,
+            states: latches,
+        }
     }
 
     /// The programs of its nodes.
@@ -90,22 +118,15 @@ impl RunningBoard {
         &self.programs
     }
 
-    /// The job that it has run last, or is to run.
+    /// The job that it has at hand.
     pub fn job(&self) -> &Job
         ensures { result.now ≡ self.now.job }
     {
         &self.job
     }
 
-    /// The netlist of the design.
-    pub fn flat(&self) -> &Flat
-        ensures { result.now ≡ self.now.job.checked.ordered.flat }
-    {
-        self.job.checked().ordered().flat()
-    }
-
     /// Works out its job in one worker. It takes the memory of all of it before the first step.
-    pub fn work_alone(&self, alloc: Global) -> Result<Answer, AllocError>
+    fn work_alone(&self, alloc: Global) -> Result<Answer, AllocError>
         ensures outputs { let job = self.now.job in IfOk result (λ answer. answer.outputs
             ≡ outputs_of job.checked.ordered.flat job.start job.rows) }
         ensures latches { let job = self.now.job in IfOk result (λ answer. answer.latches
@@ -121,42 +142,25 @@ impl RunningBoard {
 
 /// By itself a board runs in one worker: each batch is a job of its world.
 impl Engine for RunningBoard {
-    ghost use Rattle.vw_batches.specs.Runs.{next_clock};
+    ghost use Rattle.vw_batches.specs.Runs.{engine_of};
 
-    ghost netlist = { λ board. board.job.checked.ordered.flat };
-
-    ghost done = { λ board. next_clock board.job };
+    ghost seen = { λ board. engine_of board.job };
 
     fn flat(&self) -> &Flat {
-        self.flat()
+        self.job.checked().ordered().flat()
     }
 
-    fn work_out(
-        &mut self,
-        alloc: Global,
-        rows: Rows,
-        state: &mut Bits,
-    ) -> Result<Batch, AllocError> {
-        self.take_job(alloc, rows, state);
+    fn clock(&self) -> u64 {
+        self.job.first
+    }
+
+    fn state(&self) -> &Bits {
+        &self.job.start
+    }
+
+    fn work_out(&mut self, alloc: Global, rows: Rows) -> Result<Batch, AllocError> {
+        self.take_rows(rows);
         let answer = self.work_alone(alloc)?;
-        Ok(batch_of(answer, state))
-    }
-}
-
-/// What a job came to, as a batch of clocks. The latch values after the last are written over `state`.
-pub fn batch_of(answer: Answer, state: &mut Bits) -> Batch
-    ensures outputs { result.outputs ≡ answer.outputs }
-    ensures states { result.states ≡ answer.latches }
-    ensures state { state.new ≡ answer.last }
-{
-    let Answer {
-        outputs,
-        latches,
-        last,
-    } = answer;
-    *state = last;
-    Batch {
-        outputs,
-        states: latches,
+        Ok(self.go_past(alloc, answer))
     }
 }

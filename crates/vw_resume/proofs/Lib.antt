@@ -2,4 +2,4 @@ pub mod CutAtSpace
 pub mod ReadBack
 pub mod TraceAsLines
 pub mod JoinedTraces
-pub mod Ran
+pub mod SavedStates

@@ -38,19 +38,13 @@ impl Recorder for StateRecorder {
     ghost use Rattle.std.specs.Prelude.{◌+◌, length, true};
     ghost use Rattle.vw_resume.specs.States.{state_text};
 
-    ghost left = { λ recorder history. state_text (recorder.clocks + length history.outputs) history.last };
-
-    ghost outputs = { λ recorder. recorder.outputs };
-
-    ghost latches = { λ recorder. recorder.latches };
-
-    ghost clocks = { λ recorder. recorder.clocks };
-
-    ghost waits = { λ _. true };
-
-    fn next_clock(&self) -> u64 {
-        self.clocks
-    }
+    ghost seen = { λ recorder. record {
+      left = λ history. state_text (recorder.clocks + length history.outputs) history.last;
+      outputs = recorder.outputs;
+      latches = recorder.latches;
+      clock = recorder.clocks;
+      waits = true;
+    } };
 
     fn lines(&mut self, alloc: Global, batch: &Batch) -> Result<Vec<u8>, AllocError> {
         self.clocks += batch.outputs.len() as u64;

@@ -1,12 +1,8 @@
 //! Runs of a planned design that go on from a state.
-ghost use Rattle.std.specs.Prelude.{◌≡◌, ◌<◌, ◌≤◌, ◌+◌, ◌^◌, ℕ, List, length, IfOk, OnOk};
+ghost use Rattle.std.specs.Prelude.{◌≡◌, ◌<◌, ◌≤◌, ◌+◌, ◌^◌, length, IfOk};
 ghost use Rattle.vw_net.specs.Cells.{latch_count};
-ghost use Rattle.vw_outside.specs.Told.{held};
 ghost use Rattle.vw_plan.specs.PlannedBoard.{planned_board};
-ghost use Rattle.vw_prog.specs.Scripts.{planned_of};
-ghost use Rattle.vw_rows.specs.Standing.{StandsIn};
-ghost use Rattle.vw_trace.specs.Streamed.{Streams};
-ghost use Rattle.vw_batches.specs.Runs.{HaveRun};
+ghost use Rattle.vw_trace.specs.Streamed.{Streams, clocks_left};
 ghost use Rattle.vw_resume.specs.Resumed.{HaveResumed, resumed_trace, without_state};
 
 use crate::state::State;
@@ -14,122 +10,54 @@ use std::alloc::Global;
 use std::marker::Sync;
 use std::sync::Wait;
 use std::thread::Threads;
-use vw_batches::{RunningBoard, go_on};
+use vw_batches::{Floor, RunningBoard, write_trace_on};
 use vw_net::{Bits, MOST_CELLS};
 use vw_outside::{BurstGate, Shelf, Sink};
 use vw_plan::Checked;
 use vw_prog::Fabric;
-use vw_rows::Stimulus;
-use vw_trace::{RunFault, TraceRecorder, write_head};
+use vw_rows::Rereading;
+use vw_trace::{Engine, RunFault};
 
-/// Runs a board over a stimulus, of which nothing was given, from a clock and latch values on, and writes the trace. The
-/// latch values after the last clock are written over those before the first.
-fn resume_board<T: Threads + Wait + Sync, S: Shelf, F: Fabric, G: BurstGate, O: Sink>(
-    rt: &T,
-    alloc: Global,
-    board: &mut RunningBoard,
-    clock: u64,
-    latches: &mut Bits,
-    workers: u32,
-    stimulus: &mut Stimulus,
-    shelf: &mut S,
-    fabric: &mut F,
-    gate: &G,
-    out: &mut O,
-) -> Result<(), RunFault>
-    requires some { 1 ≤ workers }
-    requires few { workers ≤ 64 }
-    requires columns { stimulus.old.width ≡ board.old.job.checked.ordered.flat.inputs }
-    requires fresh { stimulus.old.done ≡ 0 }
-    requires stands { (text : List ℕ) → (S.seen shelf.old).told stimulus.old.name ≡ held text
-        → StandsIn stimulus.old text }
-    requires latches { length latches.old ≡ latch_count board.old.job.checked.ordered.flat.cells }
-    requires clocks { clock + stimulus.old.clocks < 2 ^ 32 }
-    ensures streams { let planned = planned_of board.old.job in
-        Streams stimulus.old.name stimulus.old.width
-        (resumed_trace planned.ordered.flat clock latches.old)
-        (HaveRun workers planned clock latches.old (F.carried fabric.old) (F.carried fabric.new)
-        stimulus.old.clocks latches.new result)
-        (S.seen shelf.old) (O.seen out.old) (S.seen shelf.new) (O.seen out.new) result }
-    ensures latches { OnOk result (length latches.new
-        ≡ latch_count board.old.job.checked.ordered.flat.cells) }
-    ensures done { OnOk result (stimulus.new.done ≡ stimulus.old.clocks) }
-{
-    write_head(alloc, board.flat(), 0, latches, out)?;
-    let mut recorder = TraceRecorder::make(board.flat(), clock, latches);
-    go_on(
-        rt,
-        alloc,
-        board,
-        &mut recorder,
-        workers,
-        stimulus,
-        latches,
-        shelf,
-        fabric,
-        gate,
-        out,
-    )
-}
-
-/// Runs a planned design on its board from a state on, over a checked stimulus, of which nothing was given, with 1 to 64
-/// workers, and appends the trace of the unpartitioned design from that state on, without probes. The clocks are numbered
+/// Runs a planned design on its board from a state on, over all rows that a stimulus still gives, with the workers
+/// of a floor, and appends the trace of the unpartitioned design from that state on, without probes. The clocks are numbered
 /// from the state's. It answers the state after the last clock.
 ///
 /// The state may come from another board, another plan and another number of workers: only the number of its latches and of
 /// its clocks matter. As in any run, memory is taken for a batch of 256 clocks at a time, each link carries the words of the
 /// plan over these clocks, where there are two workers or more, and it isn't proved that the call returns. Where a read or a
 /// write fails or memory runs out, a front of the trace was appended, and no state is answered.
-pub fn run_from<T: Threads + Wait + Sync, S: Shelf, F: Fabric, G: BurstGate, O: Sink>(
-    rt: &T,
+pub fn run_from<T: Threads + Wait + Sync, F: Fabric, G: BurstGate, S: Shelf, O: Sink>(
     alloc: Global,
     checked: Checked,
     state: State,
-    workers: u32,
-    stimulus: &mut Stimulus,
-    shelf: &mut S,
-    fabric: &mut F,
-    gate: &G,
+    floor: &mut Floor<'_, '_, '_, T, F, G>,
+    rows: &mut Rereading<'_, '_, S>,
     out: &mut O,
 ) -> Result<State, RunFault>
-    requires some { 1 ≤ workers }
-    requires few { workers ≤ 64 }
-    requires columns { stimulus.old.width ≡ checked.ordered.flat.inputs }
-    requires fresh { stimulus.old.done ≡ 0 }
-    requires stands { (text : List ℕ) → (S.seen shelf.old).told stimulus.old.name ≡ held text
-        → StandsIn stimulus.old text }
+    requires columns { rows.old.stimulus.now.width ≡ checked.ordered.flat.inputs }
     requires latches { length state.latches ≡ latch_count checked.ordered.flat.cells }
-    requires clocks { state.clock + stimulus.old.clocks < 2 ^ 32 }
+    requires clocks { state.clock + clocks_left rows.old.stimulus.now < 2 ^ 32 }
+    ensures shelf { rows.new.shelf.ghost_name ≡ rows.old.shelf.ghost_name }
+    ensures fabric { floor.new.fabric.ghost_name ≡ floor.old.fabric.ghost_name }
     ensures streams { let planned = planned_board checked.ordered checked.board checked.plan in
-        Streams stimulus.old.name stimulus.old.width
-        (resumed_trace checked.ordered.flat state.clock state.latches)
-        (HaveResumed workers planned state.clock state.latches (F.carried fabric.old)
-        (F.carried fabric.new) result)
-        (S.seen shelf.old) (O.seen out.old) (S.seen shelf.new) (O.seen out.new)
-        (without_state result) }
-    ensures clock { IfOk result (λ after. after.clock ≡ state.clock + stimulus.old.clocks) }
+        Streams (resumed_trace checked.ordered.flat state.clock state.latches)
+        (HaveResumed floor.old.workers planned state.clock state.latches
+        (F.carried floor.old.fabric.now) (F.carried floor.new.fabric.now) result)
+        rows.old rows.new (O.seen out.old) (O.seen out.new) (without_state result) }
+    ensures clock { IfOk result (λ after. after.clock
+        ≡ state.clock + clocks_left rows.old.stimulus.now) }
     ensures latches { IfOk result (λ after. length after.latches
         ≡ latch_count checked.ordered.flat.cells) }
     ensures few_latches { IfOk result (λ after. length after.latches ≤ MOST_CELLS) }
-    ensures done { IfOk result (λ after. stimulus.new.done ≡ stimulus.old.clocks) }
 {
-    let State { clock, mut latches } = state;
-    let mut board = RunningBoard::make(alloc, checked)?;
-    resume_board(
-        rt,
-        alloc,
-        &mut board,
-        clock,
-        &mut latches,
-        workers,
-        stimulus,
-        shelf,
-        fabric,
-        gate,
-        out,
-    )?;
+    let State { clock, latches } = state;
+    // (room for the last values before the first clock, so that no memory can be wanting behind the last)
+    let mut last = latches.as_slice().to_vec(alloc)?;
+    let mut board = RunningBoard::make(alloc, checked, clock, latches)?;
+    write_trace_on(alloc, &mut board, 0, floor, rows, out)?;
+    last.copy_from_slice(board.state().as_slice());
     Ok(State {
-        clock: clock + stimulus.done(),
-        latches,
+        clock: board.clock(),
+        latches: Bits::of(last),
     })
 }

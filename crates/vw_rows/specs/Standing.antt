@@ -1,5 +1,6 @@
 -- A checked stimulus, and how far it was given.
 use Rattle.std.specs.Prelude.{◌≡◌, ◌≤◌, ◌<◌, ℕ, ◌+◌, Bool, false, List, ◌++◌, length, replicate, drop, Result, Ok, Err}
+use Rattle.vw_outside.specs.Told.{Told, held}
 use Rattle.vw_text.specs.Physical.{text_lines}
 use Rattle.vw_rows.specs.declared.fault.StimFault.{StimFault}
 use Rattle.vw_rows.specs.declared.fault.StimFault.TheVariants.{BadLine}
@@ -19,6 +20,10 @@ pub record StandsIn (stimulus : Stimulus) (text : List ℕ) : Type 0 where
   pub left : behind (replicate stimulus.owed stimulus.before) (rows_of_lines stimulus.width stimulus.line (stimulus.done + stimulus.owed) stimulus.before (text_lines (drop stimulus.at text)))
       ≡ Ok (drop stimulus.done rows)
   pub first : stimulus.done ≡ 0 → stimulus.before ≡ replicate stimulus.width false
+
+-- a stimulus stands in the text that is told, where one is
+abbrev pub StandsWhereHeld : Stimulus → Told → Type 0
+StandsWhereHeld stimulus told = (text : List ℕ) → told ≡ held text → StandsIn stimulus text
 
 -- a text was checked for so many columns: a stimulus stands in it, or it has this fault
 abbrev pub Checks : ℕ → List ℕ → Result Stimulus StimFault → Type 0

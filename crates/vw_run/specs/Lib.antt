@@ -2,4 +2,3 @@ pub mod Shortest
 pub mod Compiled
 pub mod GivenChips
 pub mod Messages
-pub mod Runs

@@ -8,7 +8,7 @@ use Rattle.vw_resume.specs.declared.state.State.{State}
 use Rattle.vw_resume.specs.Joined.{IsJoined}
 use Rattle.vw_resume.specs.Resumed.{resumed_trace}
 use Rattle.vw_resume.specs.States.{Spells}
-use Rattle.vw_resume.proofs.Ran.{saved_spells}
+use Rattle.vw_resume.proofs.SavedStates.{saved_spells}
 use Rattle.vw_resume.proofs.ReadBack.{spelled_once}
 use Rattle.vw_trace.specs.FlatTrace.{flat_trace}
 use Rattle.vw_courses.specs.Commands.{trace_of, saved_of}

@@ -7,7 +7,7 @@ use std::alloc::Global;
 use std::test::Fail;
 use vw_front::{NamedNetlist, named_netlist_of_text};
 use vw_outside::{MemSink, Name};
-use vw_rows::Stimulus;
+use vw_rows::{Rereading, Stimulus};
 use vw_samples::name;
 use vw_wave::write_wave;
 
@@ -55,15 +55,11 @@ fn wave_over(
     let Ok(mut stimulus) = Stimulus::check(alloc, &mut shelf, &name, ordered.flat().inputs()) else {
         return Err("a fault of the stimulus".into());
     };
-    match write_wave(
-        alloc,
-        ordered,
-        names,
-        false,
-        &mut stimulus,
-        &mut shelf,
-        &mut out,
-    ) {
+    let mut rows = Rereading {
+        stimulus: &mut stimulus,
+        shelf: &mut shelf,
+    };
+    match write_wave(alloc, ordered, names, false, &mut rows, &mut out) {
         Ok(()) => Ok(out.written),
         Err(_) => Err("a fault of the run".into()),
     }

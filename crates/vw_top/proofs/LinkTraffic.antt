@@ -1,15 +1,14 @@
 -- What the links of a planned board carry, by the number of workers.
-use Rattle.std.proofs.Common.{◌≡◌, ◌<◌, ◌≤◌, ℕ, Bool, true, false, List, length, take, Some, None, if◌then◌else◌, refl, sym, ◌∙◌, ap, subst, arith}
+use Rattle.std.proofs.Common.{◌≡◌, ◌≤◌, ℕ, Bool, true, false, List, length, take, Some, None, if◌then◌else◌, refl, sym, ap, subst, arith}
 use Rattle.std.specs.Prelude.{ltb}
 use Rattle.std.proofs.Math.Path.{fun_ext}
-use Rattle.std.proofs.lemmas.Bool.{lt-ltb, le-ltb, ltb-true, ltb-false}
+use Rattle.std.proofs.lemmas.Bool.{lt-ltb}
 use Rattle.vw_net.specs.Cells.{start_values}
 use Rattle.vw_net.specs.declared.ordered.Ordered.{Ordered}
 use Rattle.vw_outside.specs.Reads.{SeenShelf}
 use Rattle.vw_outside.specs.Writes.{SeenSink}
 use Rattle.vw_course.specs.declared.outside.Outside.{Outside}
 use Rattle.vw_course.specs.Outside.{Carried, fronts}
-use Rattle.vw_course.specs.Course.{Course}
 use Rattle.vw_course.specs.Follows.{Answer}
 use Rattle.vw_course.specs.Goes.{GoesOver}
 use Rattle.vw_plan.specs.declared.board.Board.{Board}
@@ -21,22 +20,6 @@ use Rattle.vw_batches.proofs.LinkWords.{words_of_front}
 use Rattle.vw_courses.specs.Messages.{vocabulary}
 use Rattle.vw_courses.specs.Commands.{TextOver, Scripts, no_links, netlist_course, scripts_from, board_course}
 use Rattle.vw_top.proofs.StreamedTraces.{HaveParts}
-
--- ---- how many workers there are
-
-fewer : (workers other : ℕ) → (1 < other → 1 < workers) → workers < 2 → (few : Bool) → ltb other 2 ≡ few → ltb other 2 ≡ true
-fewer workers other back less true is = is
-fewer workers other back less false is = absurd (none (back (omega (arith, ltb-false other 2 is)))) where
-  none : 1 < workers → ⊥
-  none more = omega (arith, less, more)
-
-as_many : (workers other : ℕ) → (1 < workers → 1 < other) → (1 < other → 1 < workers) → ltb workers 2 ≡ ltb other 2
-as_many workers other there back = by (ltb workers 2) refl where
-  by : (few : Bool) → ltb workers 2 ≡ few → ltb workers 2 ≡ ltb other 2
-  by true is = is ∙ sym (fewer workers other back (ltb-true workers 2 is) (ltb other 2) refl)
-  by false is = is ∙ sym (le-ltb other 2 (several (there (omega (arith, ltb-false workers 2 is))))) where
-    several : 1 < other → 2 ≤ other
-    several more = omega (arith, more)
 
 -- ---- the words of a planned board
 
@@ -58,20 +41,7 @@ module _ (planned : PlannedBoard) (first : ℕ) (state : List Bool) where
   pub alone_from : (workers : ℕ) → workers ≤ 1 → scripts_from workers planned first state ≡ no_links
   alone_from workers few = fun_ext (λ rows. ap (λ (one : Bool). if one then None else Some (words rows)) (lt-ltb workers 2 (omega (arith, few))))
 
-  -- so what counts is only whether there are several
-  pub as_many_from : (workers other : ℕ) → (1 < workers → 1 < other) → (1 < other → 1 < workers) → scripts_from workers planned first state ≡ scripts_from other planned first state
-  as_many_from workers other there back = fun_ext (λ rows. ap (λ (one : Bool). if one then None else Some (words rows)) (as_many workers other there back))
-
--- a function that follows a course with the words of some number of workers follows that of any other such number
-module _ {S O : Type 0} (seen_shelf : S → SeenShelf) (seen_out : O → SeenSink) (Moved : Carried vocabulary.Word → Carried vocabulary.Word → Type 0) (course : Scripts → Course vocabulary) (planned : PlannedBoard) (first : ℕ) (state : List Bool) where
-  pub goes_with : (workers other : ℕ) → (1 < workers → 1 < other) → (1 < other → 1 < workers) → {before after : Outside S O} {answer : Answer vocabulary}
-      → GoesOver seen_shelf seen_out vocabulary Moved (course (scripts_from workers planned first state)) before after answer
-      → GoesOver seen_shelf seen_out vocabulary Moved (course (scripts_from other planned first state)) before after answer
-  goes_with workers other there back {before = before} {after = after} {answer = answer} goes =
-      subst (λ (scripts : Scripts). GoesOver seen_shelf seen_out vocabulary Moved (course scripts) before after answer) (as_many_from planned first state workers other there back) goes
-
--- so a function that follows the course of a netlist without links follows that of a planned board with one worker, and one
--- with some number of workers follows that of any other, where both are several or none is
+-- so a function that follows the course of a netlist without links follows that of a planned board with one worker
 module _ {S O : Type 0} (seen_shelf : S → SeenShelf) (seen_out : O → SeenSink) (Moved : Carried vocabulary.Word → Carried vocabulary.Word → Type 0) (stimulus : List ℕ) (unknown : Bool) (ordered : Ordered) (board : Board) (plan : Plan) (text : TextOver Ordered) where
   abbrev planned : PlannedBoard
   planned = planned_board ordered board plan
@@ -84,9 +54,3 @@ module _ {S O : Type 0} (seen_shelf : S → SeenShelf) (seen_out : O → SeenSin
       → GoesOver seen_shelf seen_out vocabulary Moved (board_course stimulus text workers unknown ordered board plan) before after answer
   goes_alone workers few {before = before} {after = after} {answer = answer} goes =
       subst (λ (scripts : Scripts). GoesOver seen_shelf seen_out vocabulary Moved (netlist_course stimulus text scripts ordered) before after answer) (sym (alone_from planned 0 start workers few)) goes
-
-  pub goes_together : (workers other : ℕ) → (1 < workers → 1 < other) → (1 < other → 1 < workers) → {before after : Outside S O} {answer : Answer vocabulary}
-      → GoesOver seen_shelf seen_out vocabulary Moved (board_course stimulus text workers unknown ordered board plan) before after answer
-      → GoesOver seen_shelf seen_out vocabulary Moved (board_course stimulus text other unknown ordered board plan) before after answer
-  goes_together workers other there back {before = before} {after = after} {answer = answer} goes =
-      goes_with seen_shelf seen_out Moved (λ scripts. netlist_course stimulus text scripts ordered) planned 0 start workers other there back {before = before} {after = after} {answer = answer} goes

@@ -4,13 +4,12 @@ ghost use Rattle.vw_course.specs.Goes.{Goes};
 ghost use Rattle.vw_outside.specs.Writes.{WritesOut};
 ghost use Rattle.vw_courses.specs.Commands.{ready_course, size_rest, sound_text};
 ghost use Rattle.vw_courses.specs.Messages.{vocabulary};
-ghost use Rattle.vw_top.specs.Stages.{by_of};
+ghost use Rattle.vw_files.specs.Ready.{by_of};
 
-use crate::board_files::BoardFiles;
-use crate::ready::ready_board;
 use std::alloc::{AllocError, Global};
 use vw_course::{Outside, answer_of};
 use vw_courses::Unfinished;
+use vw_files::{BoardFiles, ready_board};
 use vw_outside::{Shelf, Sink, Unwritten, put_text};
 use vw_plan::{Checked, Plan};
 

@@ -9,16 +9,13 @@ ghost use Rattle.vw_courses.specs.Messages.{vocabulary};
 ghost use Rattle.vw_courses.specs.Steps.Commands.{command_view};
 ghost use Rattle.vw_courses.specs.Words.{spelled_by, needs_runtime};
 
-use crate::board_files::{BoardFiles, PlanBy};
 use crate::check::check;
 use crate::demo::{demo_by_one, demo_by_several};
 use crate::emit::emit;
 use crate::grade::grade;
-use crate::hands::Hands;
 use crate::help::{help, version};
 use crate::nets::nets;
 use crate::plan::plan;
-use crate::probes::Probes;
 use crate::resume::resume;
 use crate::run::{run_by_one, run_by_several};
 use crate::save::save;
@@ -28,8 +25,10 @@ use std::alloc::Global;
 use std::marker::Sync;
 use std::sync::Wait;
 use std::thread::Threads;
+use vw_batches::Floor;
 use vw_course::{Outside, report};
 use vw_courses::{Command, Reason, Unfinished, command_of, probes_of};
+use vw_files::{BoardFiles, PlanBy, Probes};
 use vw_outside::{BurstGate, Name, Shelf, Sink};
 use vw_prog::Fabric;
 use vw_statuses::{headline, promises};
@@ -140,17 +139,16 @@ fn carry_out<S: Shelf, O: Sink>(
     }
 }
 
-/// Carries out a command that needs a runtime, up to its message.
+/// Carries out a command by the workers that it asks for, up to its message.
 fn carry_out_together<R: Threads + Wait + Sync, S: Shelf, F: Fabric, G: BurstGate, O: Sink>(
     alloc: Global,
     command: Command<'_>,
-    hands: &mut Hands<'_, '_, '_, R, F, G>,
+    floor: &mut Floor<'_, '_, '_, R, F, G>,
     outside: &mut Outside<'_, '_, S, O>,
 ) -> Result<(), Unfinished>
-    requires { needs_runtime (command_view command) ≡ true }
-    ensures fabric { hands.new.fabric.ghost_name ≡ hands.old.fabric.ghost_name }
+    ensures fabric { floor.new.fabric.ghost_name ≡ floor.old.fabric.ghost_name }
     ensures goes { GoesOver S.seen O.seen vocabulary
-        (MovedFrom (F.carried hands.old.fabric.now) (F.carried hands.new.fabric.now))
+        (MovedFrom (F.carried floor.old.fabric.now) (F.carried floor.new.fabric.now))
         (course_of (command_view command.entry)) outside.old outside.new result }
 {
     match command {
@@ -170,7 +168,8 @@ fn carry_out_together<R: Threads + Wait + Sync, S: Shelf, F: Fabric, G: BurstGat
                 board,
                 plan: PlanBy::file(plan),
             };
-            run_by_several(alloc, &files, stimulus, workers, unknown, hands, outside)
+            floor.workers = workers;
+            run_by_several(alloc, &files, stimulus, unknown, floor, outside)
         }
         Command::Save {
             design,
@@ -186,7 +185,8 @@ fn carry_out_together<R: Threads + Wait + Sync, S: Shelf, F: Fabric, G: BurstGat
                 board,
                 plan: PlanBy::file(plan),
             };
-            save(alloc, &files, stimulus, workers, unknown, hands, outside)
+            floor.workers = workers;
+            save(alloc, &files, stimulus, unknown, floor, outside)
         }
         Command::Resume {
             design,
@@ -202,16 +202,28 @@ fn carry_out_together<R: Threads + Wait + Sync, S: Shelf, F: Fabric, G: BurstGat
                 board,
                 plan: PlanBy::file(plan),
             };
-            resume(alloc, &files, state, stimulus, workers, hands, outside)
+            floor.workers = workers;
+            resume(alloc, &files, state, stimulus, floor, outside)
         }
         Command::Grade {
             design,
             stimulus,
             workers,
             unknown,
-        } => grade(hands.rt, alloc, design, stimulus, workers, unknown, outside),
-        Command::Demo { size, workers } => demo_by_several(alloc, size, workers, hands, outside),
-        _ => unreachable!(),
+        } => grade(floor.rt, alloc, design, stimulus, workers, unknown, outside),
+        Command::Demo { size, workers } => {
+            floor.workers = workers;
+            demo_by_several(alloc, size, floor, outside)
+        }
+        Command::Sim { .. }
+        | Command::Wave { .. }
+        | Command::Nets { .. }
+        | Command::Check { .. }
+        | Command::Plan { .. }
+        | Command::Emit { .. }
+        | Command::Help
+        | Command::Version
+        | Command::Nothing(_) => carry_out(alloc, command, outside),
     }
 }
 
@@ -230,23 +242,22 @@ fn follow<S: Shelf, O: Sink>(
     carry_out(alloc, command, &mut outside)
 }
 
-/// The same for one that needs a runtime.
+/// The same by the workers that the command asks for.
 fn follow_together<R: Threads + Wait + Sync, S: Shelf, F: Fabric, G: BurstGate, O: Sink>(
     alloc: Global,
     command: Command<'_>,
-    hands: &mut Hands<'_, '_, '_, R, F, G>,
+    floor: &mut Floor<'_, '_, '_, R, F, G>,
     shelf: &mut S,
     out: &mut O,
 ) -> Result<(), Unfinished>
-    requires { needs_runtime (command_view command) ≡ true }
-    ensures fabric { hands.new.fabric.ghost_name ≡ hands.old.fabric.ghost_name }
+    ensures fabric { floor.new.fabric.ghost_name ≡ floor.old.fabric.ghost_name }
     ensures goes { IsFollowed vocabulary
-        (MovedFrom (F.carried hands.old.fabric.now) (F.carried hands.new.fabric.now))
+        (MovedFrom (F.carried floor.old.fabric.now) (F.carried floor.new.fabric.now))
         (course_of (command_view command.entry)) (S.seen shelf.old) (O.seen out.old)
         (S.seen shelf.new) (O.seen out.new) result }
 {
     let mut outside = Outside { shelf, out };
-    carry_out_together(alloc, command, hands, &mut outside)
+    carry_out_together(alloc, command, floor, &mut outside)
 }
 
 /// Carries out a command that needs no runtime, and gives the exit status.
@@ -269,25 +280,24 @@ fn without_runtime<S: Shelf, O: Sink, E: Sink>(
     }
 }
 
-/// Carries out a command that needs a runtime, and gives the exit status.
+/// Carries out a command by the workers that it asks for, and gives the exit status.
 fn together<R: Threads + Wait + Sync, S: Shelf, F: Fabric, G: BurstGate, O: Sink, E: Sink>(
     alloc: Global,
     command: Command<'_>,
-    hands: &mut Hands<'_, '_, '_, R, F, G>,
+    floor: &mut Floor<'_, '_, '_, R, F, G>,
     shelf: &mut S,
     out: &mut O,
     err: &mut E,
 ) -> u8
-    requires { needs_runtime (command_view command) ≡ true }
-    ensures fabric { hands.new.fabric.ghost_name ≡ hands.old.fabric.ghost_name }
+    ensures fabric { floor.new.fabric.ghost_name ≡ floor.old.fabric.ghost_name }
     ensures called { IsCallOf (course_of (command_view command.entry)) (seen_call
-        (seen_outside (S.seen shelf.old) (O.seen out.old) (F.carried hands.old.fabric.now))
+        (seen_outside (S.seen shelf.old) (O.seen out.old) (F.carried floor.old.fabric.now))
         (E.seen err.old)
-        (seen_outside (S.seen shelf.new) (O.seen out.new) (F.carried hands.new.fabric.now))
+        (seen_outside (S.seen shelf.new) (O.seen out.new) (F.carried floor.new.fabric.now))
         (E.seen err.new)
         result) }
 {
-    match follow_together(alloc, command, hands, shelf, out) {
+    match follow_together(alloc, command, floor, shelf, out) {
         Ok(()) => 0,
         Err(unfinished) => report(alloc, &unfinished, err),
     }
@@ -366,9 +376,6 @@ pub fn virtual_wires<R: Threads + Wait + Sync, S: Shelf, F: Fabric, G: BurstGate
     headline();
     promises();
     let command = command_of(words);
-    if command.needs_runtime() {
-        let mut hands = Hands { rt, fabric, gate };
-        return together(alloc, command, &mut hands, shelf, out, err);
-    }
-    without_runtime(alloc, command, shelf, out, err)
+    let mut floor = Floor::new(rt, fabric, gate, 1);
+    together(alloc, command, &mut floor, shelf, out, err)
 }

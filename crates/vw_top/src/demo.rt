@@ -1,5 +1,5 @@
 //! The command `demo`: a run of generated texts in memory, of whose trace a summary is written.
-ghost use Rattle.std.specs.Prelude.{◌≡◌, ◌<◌, ◌≤◌, [], ℕ, List, false, IfOk};
+ghost use Rattle.std.specs.Prelude.{◌≡◌, ◌≤◌, [], ℕ, List, false, IfOk};
 ghost use Rattle.vw_course.specs.Goes.{Goes, GoesOver, IsFollowed, MovedFrom, Unmoved};
 ghost use Rattle.vw_course.specs.OnTexts.{EndsSummed};
 ghost use Rattle.vw_outside.specs.Memory.{seen_sink};
@@ -10,16 +10,15 @@ ghost use Rattle.vw_gen.specs.Summary.{summary};
 ghost use Rattle.vw_courses.specs.MayPlan.{made_here};
 ghost use Rattle.vw_courses.specs.Messages.{vocabulary};
 
-use crate::board_files::{BoardFiles, PlanBy};
-use crate::hands::Hands;
-use crate::probes::Probes;
 use crate::run::{run_by_one, run_by_several};
 use std::alloc::{AllocError, Global};
 use std::marker::Sync;
 use std::sync::Wait;
 use std::thread::Threads;
+use vw_batches::Floor;
 use vw_course::{Outside, answer_of};
 use vw_courses::{Size, Unfinished};
+use vw_files::{BoardFiles, PlanBy, Probes};
 use vw_gen::{board, design, stimulus, summary};
 use vw_outside::{
     BurstGate, MemSink, Name, Shelf, Sink, SureShelf, no_read_fault_over_a_sure_shelf, put_text,
@@ -125,22 +124,20 @@ fn run_named_by_one(
     run_alone(alloc, design, board, stimulus, &mut inside)
 }
 
-/// The same with several workers, on threads of the runtime in hand.
+/// The same with the workers of a floor, on threads of its runtime.
 fn run_named_by_several<R: Threads + Wait + Sync, F: Fabric, G: BurstGate>(
     alloc: Global,
     design: &Name,
     board: &Name,
     stimulus: &Name,
-    workers: u64,
-    hands: &mut Hands<'_, '_, '_, R, F, G>,
+    floor: &mut Floor<'_, '_, '_, R, F, G>,
     shelf: &mut SureShelf,
     trace: &mut MemSink,
 ) -> Result<(), Unfinished>
-    requires { 1 < workers }
-    ensures fabric { hands.new.fabric.ghost_name ≡ hands.old.fabric.ghost_name }
+    ensures fabric { floor.new.fabric.ghost_name ≡ floor.old.fabric.ghost_name }
     ensures goes { IsFollowed vocabulary
-        (MovedFrom (F.carried hands.old.fabric.now) (F.carried hands.new.fabric.now))
-        (run_course [] design.now board.now made_here stimulus.now workers false)
+        (MovedFrom (F.carried floor.old.fabric.now) (F.carried floor.new.fabric.now))
+        (run_course [] design.now board.now made_here stimulus.now floor.old.workers false)
         (seen_sure shelf.old.files.items) (seen_sink trace.old)
         (seen_sure shelf.new.files.items) (seen_sink trace.new) result }
 {
@@ -151,7 +148,7 @@ fn run_named_by_several<R: Threads + Wait + Sync, F: Fabric, G: BurstGate>(
         plan: PlanBy::Made,
     };
     let mut inside = Outside { shelf, out: trace };
-    run_by_several(alloc, &files, stimulus, workers, false, hands, &mut inside)
+    run_by_several(alloc, &files, stimulus, false, floor, &mut inside)
 }
 
 /// Runs the texts of a demo in this thread.
@@ -170,27 +167,23 @@ fn run_texts_by_one(
     run_named_by_one(alloc, &design, &board, &stimulus, shelf, trace)
 }
 
-/// The same with several workers, on threads of the runtime in hand.
+/// The same with the workers of a floor, on threads of its runtime.
 fn run_texts_by_several<R: Threads + Wait + Sync, F: Fabric, G: BurstGate>(
     alloc: Global,
-    workers: u64,
-    hands: &mut Hands<'_, '_, '_, R, F, G>,
+    floor: &mut Floor<'_, '_, '_, R, F, G>,
     shelf: &mut SureShelf,
     trace: &mut MemSink,
 ) -> Result<(), Unfinished>
-    requires { 1 < workers }
-    ensures fabric { hands.new.fabric.ghost_name ≡ hands.old.fabric.ghost_name }
+    ensures fabric { floor.new.fabric.ghost_name ≡ floor.old.fabric.ghost_name }
     ensures goes { IsFollowed vocabulary
-        (MovedFrom (F.carried hands.old.fabric.now) (F.carried hands.new.fabric.now))
-        (demo_run workers) (seen_sure shelf.old.files.items) (seen_sink trace.old)
+        (MovedFrom (F.carried floor.old.fabric.now) (F.carried floor.new.fabric.now))
+        (demo_run floor.old.workers) (seen_sure shelf.old.files.items) (seen_sink trace.old)
         (seen_sure shelf.new.files.items) (seen_sink trace.new) result }
 {
     let design = design_name(alloc)?;
     let board = board_name(alloc)?;
     let stimulus = stimulus_name(alloc)?;
-    run_named_by_several(
-        alloc, &design, &board, &stimulus, workers, hands, shelf, trace,
-    )
+    run_named_by_several(alloc, &design, &board, &stimulus, floor, shelf, trace)
 }
 
 /// Runs a generated design of this size on a generated board, free latches starting at 0, and writes a summary of its
@@ -210,23 +203,21 @@ pub fn demo_by_one<S: Shelf, O: Sink>(
     write_summary(alloc, size, ran, &trace, outside.out)
 }
 
-/// The same with several workers, on threads of the runtime in hand.
+/// The same with the workers of a floor, on threads of its runtime.
 pub fn demo_by_several<R: Threads + Wait + Sync, S: Shelf, F: Fabric, G: BurstGate, O: Sink>(
     alloc: Global,
     size: Size,
-    workers: u64,
-    hands: &mut Hands<'_, '_, '_, R, F, G>,
+    floor: &mut Floor<'_, '_, '_, R, F, G>,
     outside: &mut Outside<'_, '_, S, O>,
 ) -> Result<(), Unfinished>
-    requires { 1 < workers }
-    ensures fabric { hands.new.fabric.ghost_name ≡ hands.old.fabric.ghost_name }
+    ensures fabric { floor.new.fabric.ghost_name ≡ floor.old.fabric.ghost_name }
     ensures goes { GoesOver S.seen O.seen vocabulary
-        (MovedFrom (F.carried hands.old.fabric.now) (F.carried hands.new.fabric.now))
-        (demo_course size.cells workers) outside.old outside.new result }
+        (MovedFrom (F.carried floor.old.fabric.now) (F.carried floor.new.fabric.now))
+        (demo_course size.cells floor.old.workers) outside.old outside.new result }
 {
     no_read_fault_over_a_sure_shelf();
     let mut shelf = texts(alloc, size)?;
     let mut trace = room(alloc, size)?;
-    let ran = run_texts_by_several(alloc, workers, hands, &mut shelf, &mut trace);
+    let ran = run_texts_by_several(alloc, floor, &mut shelf, &mut trace);
     write_summary(alloc, size, ran, &trace, outside.out)
 }

@@ -6,14 +6,14 @@ ghost use Rattle.vw_plan.specs.PlannedBoard.{planned_board};
 ghost use Rattle.vw_courses.specs.Commands.{emit_rest, ready_course};
 ghost use Rattle.vw_courses.specs.Kinds.{IsBadEmission};
 ghost use Rattle.vw_courses.specs.Messages.{vocabulary};
-ghost use Rattle.vw_top.specs.Stages.{IsEmitted, by_of};
+ghost use Rattle.vw_files.specs.Ready.{by_of};
+ghost use Rattle.vw_top.specs.Stages.{IsEmitted};
 
-use crate::board_files::BoardFiles;
-use crate::ready::ready_board;
 use std::alloc::Global;
 use vw_course::{Outside, answer_of};
 use vw_courses::{Reason, Unfinished};
 use vw_emit::EmitFault;
+use vw_files::{BoardFiles, ready_board};
 use vw_outside::{Shelf, Sink, put_text};
 use vw_plan::Checked;
 

@@ -2,20 +2,15 @@
 //! compiler.
 #![tactic(auto)]
 
-mod board_files;
+mod answer;
 mod check;
-mod checked;
 mod commands;
 mod demo;
 mod emit;
-mod files;
 mod grade;
-mod hands;
 mod help;
 mod nets;
 mod plan;
-mod probes;
-mod ready;
 mod resume;
 mod run;
 mod save;

@@ -6,11 +6,10 @@ ghost use Rattle.vw_outside.specs.Writes.{WritesOut};
 ghost use Rattle.vw_courses.specs.Commands.{nets_course, nets_text};
 ghost use Rattle.vw_courses.specs.Messages.{vocabulary};
 
-use crate::files::read_named_design;
-use crate::probes::Probes;
 use std::alloc::Global;
 use vw_course::{Outside, answer_of};
 use vw_courses::Unfinished;
+use vw_files::{Probes, read_named_design};
 use vw_front::NamedNetlist;
 use vw_listing::netlist_text;
 use vw_outside::{Name, Shelf, Sink, Unwritten, put_text};

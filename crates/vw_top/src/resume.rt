@@ -8,24 +8,24 @@ ghost use Rattle.vw_resume.specs.Resumed.{without_state};
 ghost use Rattle.vw_rows.specs.declared.limits.TheConstants.{MOST_CLOCKS};
 ghost use Rattle.vw_courses.specs.Commands.{ready_course, resume_rest, state_course};
 ghost use Rattle.vw_courses.specs.Messages.{vocabulary};
-ghost use Rattle.vw_top.specs.Stages.{EndsClocks, by_of, run_answer};
+ghost use Rattle.vw_files.specs.Ready.{by_of};
+ghost use Rattle.vw_top.specs.Stages.{EndsClocks, run_answer};
 
-use crate::board_files::BoardFiles;
-use crate::files::{check_rows, read_state, run_answer};
-use crate::hands::Hands;
-use crate::ready::ready_board;
+use crate::answer::run_answer;
 use std::alloc::Global;
 use std::marker::Sync;
 use std::sync::Wait;
 use std::thread::Threads;
+use vw_batches::Floor;
 use vw_course::Outside;
 use vw_courses::{Reason, Unfinished};
+use vw_files::{BoardFiles, check_rows, read_state, ready_board};
 use vw_net::Cell;
 use vw_outside::{BurstGate, Name, Shelf, Sink};
 use vw_plan::Checked;
 use vw_prog::Fabric;
 use vw_resume::{ResumeFault, State, StateFault, run_from};
-use vw_rows::MOST_CLOCKS;
+use vw_rows::{MOST_CLOCKS, Rereading};
 
 /// The number of latches among cells.
 fn latch_count(cells: &[Cell]) -> u32
@@ -65,40 +65,31 @@ fn state_answer(ran: Result<State, ResumeFault>) -> Result<(), Unfinished>
 }
 
 /// Checks the stimulus, and that its clocks can follow those of the state. Then it runs a planned design over it from the
-/// state on, as it is read again, and writes the trace. At most 64 workers run it, and at least one does.
+/// state on, as it is read again, and writes the trace. The workers of the floor run it.
 fn resume_state<R: Threads + Wait + Sync, S: Shelf, F: Fabric, G: BurstGate, O: Sink>(
     alloc: Global,
     checked: Checked,
     state: State,
     stimulus: &Name,
-    workers: u64,
-    hands: &mut Hands<'_, '_, '_, R, F, G>,
+    floor: &mut Floor<'_, '_, '_, R, F, G>,
     outside: &mut Outside<'_, '_, S, O>,
 ) -> Result<(), Unfinished>
     requires few { state.clock ≤ MOST_CLOCKS }
     requires latches { length state.latches ≡ latch_count checked.ordered.flat.cells }
-    ensures fabric { hands.new.fabric.ghost_name ≡ hands.old.fabric.ghost_name }
+    ensures fabric { floor.new.fabric.ghost_name ≡ floor.old.fabric.ghost_name }
     ensures goes { GoesOver S.seen O.seen vocabulary
-        (MovedFrom (F.carried hands.old.fabric.now) (F.carried hands.new.fabric.now))
-        (state_course stimulus.now workers
+        (MovedFrom (F.carried floor.old.fabric.now) (F.carried floor.new.fabric.now))
+        (state_course stimulus.now floor.old.workers
         (planned_board checked.ordered checked.board checked.plan) state)
         outside.old outside.new result }
 {
     let mut rows = check_rows(alloc, outside.shelf, stimulus, &checked.ordered)?;
     clocks_fit(state.clock, rows.clocks())?;
-    let workers = workers.min(64).max(1) as u32;
-    let ran = run_from(
-        hands.rt,
-        alloc,
-        checked,
-        state,
-        workers,
-        &mut rows,
-        outside.shelf,
-        hands.fabric,
-        hands.gate,
-        outside.out,
-    );
+    let mut again = Rereading {
+        stimulus: &mut rows,
+        shelf: outside.shelf,
+    };
+    let ran = run_from(alloc, checked, state, floor, &mut again, outside.out);
     state_answer(ran)
 }
 
@@ -108,19 +99,18 @@ fn resume_checked<R: Threads + Wait + Sync, S: Shelf, F: Fabric, G: BurstGate, O
     checked: Checked,
     state: &Name,
     stimulus: &Name,
-    workers: u64,
-    hands: &mut Hands<'_, '_, '_, R, F, G>,
+    floor: &mut Floor<'_, '_, '_, R, F, G>,
     outside: &mut Outside<'_, '_, S, O>,
 ) -> Result<(), Unfinished>
-    ensures fabric { hands.new.fabric.ghost_name ≡ hands.old.fabric.ghost_name }
+    ensures fabric { floor.new.fabric.ghost_name ≡ floor.old.fabric.ghost_name }
     ensures goes { GoesOver S.seen O.seen vocabulary
-        (MovedFrom (F.carried hands.old.fabric.now) (F.carried hands.new.fabric.now))
-        (resume_rest state.now stimulus.now workers checked.ordered checked.board checked.plan)
+        (MovedFrom (F.carried floor.old.fabric.now) (F.carried floor.new.fabric.now))
+        (resume_rest state.now stimulus.now floor.old.workers checked.ordered checked.board checked.plan)
         outside.old outside.new result }
 {
     let latches = latch_count(checked.ordered().flat().cells());
     let state = read_state(alloc, outside.shelf, state, latches)?;
-    resume_state(alloc, checked, state, stimulus, workers, hands, outside)
+    resume_state(alloc, checked, state, stimulus, floor, outside)
 }
 
 /// Runs a design on a board over a stimulus from a state on, by the plan that is given or by one that is made, and writes
@@ -130,17 +120,16 @@ pub fn resume<R: Threads + Wait + Sync, S: Shelf, F: Fabric, G: BurstGate, O: Si
     files: &BoardFiles<'_, '_, '_, '_>,
     state: &Name,
     stimulus: &Name,
-    workers: u64,
-    hands: &mut Hands<'_, '_, '_, R, F, G>,
+    floor: &mut Floor<'_, '_, '_, R, F, G>,
     outside: &mut Outside<'_, '_, S, O>,
 ) -> Result<(), Unfinished>
-    ensures fabric { hands.new.fabric.ghost_name ≡ hands.old.fabric.ghost_name }
+    ensures fabric { floor.new.fabric.ghost_name ≡ floor.old.fabric.ghost_name }
     ensures goes { GoesOver S.seen O.seen vocabulary
-        (MovedFrom (F.carried hands.old.fabric.now) (F.carried hands.new.fabric.now))
+        (MovedFrom (F.carried floor.old.fabric.now) (F.carried floor.new.fabric.now))
         (ready_course files.now.probes.nets.now files.now.design.now files.now.board.now
-        (by_of files.now.plan) (resume_rest state.now stimulus.now workers))
+        (by_of files.now.plan) (resume_rest state.now stimulus.now floor.old.workers))
         outside.old outside.new result }
 {
     let checked = ready_board(alloc, files, outside.shelf)?;
-    resume_checked(alloc, checked, state, stimulus, workers, hands, outside)
+    resume_checked(alloc, checked, state, stimulus, floor, outside)
 }

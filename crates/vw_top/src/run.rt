@@ -1,24 +1,25 @@
 //! The command `run`: with one worker in this thread, and with several on threads.
-ghost use Rattle.std.specs.Prelude.{◌≡◌, ◌<◌, ◌≤◌, ℕ, length};
+ghost use Rattle.std.specs.Prelude.{◌≡◌, ◌≤◌, ℕ, length};
 ghost use Rattle.vw_course.specs.Goes.{Goes, GoesOver, MovedFrom};
-ghost use Rattle.vw_run.specs.Runs.{without_count};
+ghost use Rattle.vw_batches.specs.Runs.{without_count};
 ghost use Rattle.vw_courses.specs.Commands.{board_course, netlist_trace, run_course};
 ghost use Rattle.vw_courses.specs.Messages.{vocabulary};
-ghost use Rattle.vw_top.specs.Stages.{by_of, run_answer};
+ghost use Rattle.vw_files.specs.Ready.{by_of};
+ghost use Rattle.vw_top.specs.Stages.{run_answer};
 
-use crate::board_files::BoardFiles;
-use crate::files::{check_rows, run_answer};
-use crate::hands::Hands;
-use crate::ready::ready_board;
+use crate::answer::run_answer;
 use std::alloc::Global;
 use std::marker::Sync;
 use std::sync::Wait;
 use std::thread::Threads;
+use vw_batches::Floor;
 use vw_course::Outside;
 use vw_courses::Unfinished;
+use vw_files::{BoardFiles, check_rows, ready_board};
 use vw_outside::{BurstGate, Name, Shelf, Sink};
 use vw_plan::Checked;
 use vw_prog::Fabric;
+use vw_rows::Rereading;
 use vw_run::{RunFault, run, run_alone};
 
 /// The answer of a command that ran so many clocks, or that stopped before the last.
@@ -48,52 +49,44 @@ fn run_checked<S: Shelf, O: Sink>(
         outside.old outside.new result }
 {
     let mut rows = check_rows(alloc, outside.shelf, stimulus, &checked.ordered)?;
-    let ran = run_alone(
-        alloc,
-        checked,
-        probes,
-        unknown,
-        &mut rows,
-        outside.shelf,
-        outside.out,
-    );
+    let mut again = Rereading {
+        stimulus: &mut rows,
+        shelf: outside.shelf,
+    };
+    let ran = run_alone(alloc, checked, probes, unknown, &mut again, outside.out);
     clocks_answer(ran)
 }
 
-/// The same with several workers.
+/// The same with the workers of a floor.
 fn run_checked_together<R: Threads + Wait + Sync, S: Shelf, F: Fabric, G: BurstGate, O: Sink>(
     alloc: Global,
     checked: Checked,
     probes: u32,
     stimulus: &Name,
-    workers: u64,
     unknown: bool,
-    hands: &mut Hands<'_, '_, '_, R, F, G>,
+    floor: &mut Floor<'_, '_, '_, R, F, G>,
     outside: &mut Outside<'_, '_, S, O>,
 ) -> Result<(), Unfinished>
-    requires several { 1 < workers }
     requires probes { probes ≤ length checked.ordered.flat.outputs }
-    ensures fabric { hands.new.fabric.ghost_name ≡ hands.old.fabric.ghost_name }
+    ensures fabric { floor.new.fabric.ghost_name ≡ floor.old.fabric.ghost_name }
     ensures goes { GoesOver S.seen O.seen vocabulary
-        (MovedFrom (F.carried hands.old.fabric.now) (F.carried hands.new.fabric.now))
-        (board_course stimulus.now (netlist_trace probes unknown) workers unknown checked.ordered
+        (MovedFrom (F.carried floor.old.fabric.now) (F.carried floor.new.fabric.now))
+        (board_course stimulus.now (netlist_trace probes unknown) floor.old.workers unknown checked.ordered
         checked.board checked.plan)
         outside.old outside.new result }
 {
     let mut rows = check_rows(alloc, outside.shelf, stimulus, &checked.ordered)?;
-    // the form of the words lets no greater number through
-    let workers = workers.min(64) as u32;
+    let mut again = Rereading {
+        stimulus: &mut rows,
+        shelf: outside.shelf,
+    };
     let ran = run(
-        hands.rt,
         alloc,
         checked,
         probes,
         unknown,
-        workers,
-        &mut rows,
-        outside.shelf,
-        hands.fabric,
-        hands.gate,
+        floor,
+        &mut again,
         outside.out,
     );
     clocks_answer(ran)
@@ -118,27 +111,23 @@ pub fn run_by_one<S: Shelf, O: Sink>(
     run_checked(alloc, checked, probes, stimulus, unknown, outside)
 }
 
-/// The same with several workers, on threads of the runtime in hand.
+/// The same with the workers of a floor, on threads of its runtime.
 pub fn run_by_several<R: Threads + Wait + Sync, S: Shelf, F: Fabric, G: BurstGate, O: Sink>(
     alloc: Global,
     files: &BoardFiles<'_, '_, '_, '_>,
     stimulus: &Name,
-    workers: u64,
     unknown: bool,
-    hands: &mut Hands<'_, '_, '_, R, F, G>,
+    floor: &mut Floor<'_, '_, '_, R, F, G>,
     outside: &mut Outside<'_, '_, S, O>,
 ) -> Result<(), Unfinished>
-    requires { 1 < workers }
-    ensures fabric { hands.new.fabric.ghost_name ≡ hands.old.fabric.ghost_name }
+    ensures fabric { floor.new.fabric.ghost_name ≡ floor.old.fabric.ghost_name }
     ensures goes { GoesOver S.seen O.seen vocabulary
-        (MovedFrom (F.carried hands.old.fabric.now) (F.carried hands.new.fabric.now))
+        (MovedFrom (F.carried floor.old.fabric.now) (F.carried floor.new.fabric.now))
         (run_course files.now.probes.nets.now files.now.design.now files.now.board.now
-        (by_of files.now.plan) stimulus.now workers unknown)
+        (by_of files.now.plan) stimulus.now floor.old.workers unknown)
         outside.old outside.new result }
 {
     let checked = ready_board(alloc, files, outside.shelf)?;
     let probes = files.probes.nets.len() as u32;
-    run_checked_together(
-        alloc, checked, probes, stimulus, workers, unknown, hands, outside,
-    )
+    run_checked_together(alloc, checked, probes, stimulus, unknown, floor, outside)
 }

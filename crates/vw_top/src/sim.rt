@@ -4,13 +4,14 @@ ghost use Rattle.vw_course.specs.Goes.{Goes};
 ghost use Rattle.vw_courses.specs.Commands.{netlist_course, netlist_trace, no_links, sim_course};
 ghost use Rattle.vw_courses.specs.Messages.{vocabulary};
 
-use crate::files::{check_rows, read_design, run_answer};
-use crate::probes::Probes;
+use crate::answer::run_answer;
 use std::alloc::Global;
 use vw_course::Outside;
 use vw_courses::Unfinished;
+use vw_files::{Probes, check_rows, read_design};
 use vw_net::Ordered;
 use vw_outside::{Name, Shelf, Sink};
+use vw_rows::Rereading;
 use vw_trace::write_trace;
 
 /// Checks the stimulus, runs a netlist over it as it is read again, and writes the trace. So many last outputs are probes.
@@ -28,15 +29,11 @@ fn sim_netlist<S: Shelf, O: Sink>(
         outside.old outside.new result }
 {
     let mut rows = check_rows(alloc, outside.shelf, stimulus, &ordered)?;
-    let written = write_trace(
-        alloc,
-        &ordered,
-        probes,
-        unknown,
-        &mut rows,
-        outside.shelf,
-        outside.out,
-    );
+    let mut again = Rereading {
+        stimulus: &mut rows,
+        shelf: outside.shelf,
+    };
+    let written = write_trace(alloc, &ordered, probes, unknown, &mut again, outside.out);
     drop(ordered);
     run_answer(written)
 }

@@ -6,14 +6,15 @@ ghost use Rattle.vw_net.specs.Cells.{latch_count};
 ghost use Rattle.vw_courses.specs.Commands.{design_course, netlist_course, netlist_wave, no_links, wave_course, wave_of};
 ghost use Rattle.vw_courses.specs.Messages.{vocabulary};
 
-use crate::files::{check_rows, read_named_design, run_answer};
-use crate::probes::Probes;
+use crate::answer::run_answer;
 use std::alloc::Global;
 use vw_course::Outside;
 use vw_courses::Unfinished;
+use vw_files::{Probes, check_rows, read_named_design};
 use vw_front::NamedNetlist;
 use vw_net::Ordered;
 use vw_outside::{Name, Shelf, Sink};
+use vw_rows::Rereading;
 use vw_wave::write_wave;
 
 /// Checks the stimulus, runs a netlist over it as it is read again, and writes the wave of the signals with these names: the
@@ -32,15 +33,11 @@ fn wave_netlist<S: Shelf, O: Sink>(
         outside.old outside.new result }
 {
     let mut rows = check_rows(alloc, outside.shelf, stimulus, &ordered)?;
-    let written = write_wave(
-        alloc,
-        &ordered,
-        names,
-        unknown,
-        &mut rows,
-        outside.shelf,
-        outside.out,
-    );
+    let mut again = Rereading {
+        stimulus: &mut rows,
+        shelf: outside.shelf,
+    };
+    let written = write_wave(alloc, &ordered, names, unknown, &mut again, outside.out);
     drop(ordered);
     run_answer(written)
 }

@@ -1,27 +1,37 @@
--- The clocks of a netlist, written down while a checked stimulus is read again.
-use Rattle.std.proofs.Common.{◌≡◌, ◌≢◌, ◌+◌, ℕ, Bool, false, true≢false, List, [], ◌++◌, length, take, drop, Result, Ok, Err, refl, sym, ◌∙◌, ap, ap₂, subst, arith, append_assoc, append-nil, length-append}
+-- The clocks of an engine, written down while a checked stimulus is read again.
+use Rattle.std.proofs.Common.{◌≡◌, ◌≢◌, ◌<◌, ◌+◌, ◌-◌, ◌^◌, ℕ, Bool, false, true≢false, List, [], ◌++◌, length, take, drop, min, Ok, Err, refl, sym, ◌∙◌, ap, ap₂, subst, arith, append_assoc, append-nil, length-append}
+use Rattle.std.specs.Bool.{OnTrue}
 use Rattle.std.specs.List.{All}
 use Rattle.std.proofs.Math.Seq.{take-add}
-use Rattle.std.proofs.lemmas.List.{take-append-drop, take_at, take_all}
+use Rattle.std.proofs.lemmas.List.{take-append-drop, take_at, take_all, drop-drop, length-drop}
 use Rattle.std.proofs.lemmas.List.Elements.{All-append, All-nil}
 use Rattle.vw_net.specs.declared.flat.Flat.{Flat}
 use Rattle.vw_net.specs.Cells.{latch_count}
 use Rattle.vw_net.specs.History.{History, flat_history, joined, state_after}
-use Rattle.vw_net.proofs.Counts.{length-state_after}
+use Rattle.vw_net.proofs.Counts.{length-outputs_of}
+use Rattle.vw_outside.specs.declared.shelf.Shelf as shelves
 use Rattle.vw_outside.specs.declared.unwritten.Unwritten.{Unwritten}
 use Rattle.vw_outside.specs.declared.unwritten.Unwritten.TheVariants as unwritten
 use Rattle.vw_outside.specs.Told.{Told, untold, absent, held, IsTextOf}
 use Rattle.vw_outside.specs.Reads.{SeenShelf, CountsFault}
 use Rattle.vw_outside.specs.Writes.{SeenSink, appended, WrotePart, WritesOut}
-use Rattle.vw_outside.proofs.PiecesWritten.{IsLeft, part_written, unwritten_in_piece, appended-appended, appended-nil}
+use Rattle.vw_outside.proofs.PiecesWritten.{IsLeft, part_written, unwritten_in_piece, last_piece, appended-appended, appended-nil}
 use Rattle.vw_rows.specs.declared.fault.StimFault.{StimFault}
 use Rattle.vw_rows.specs.declared.fault.StimFault.TheVariants as rows_faults
+use Rattle.vw_rows.specs.declared.rereading.Rereading.{Rereading}
 use Rattle.vw_rows.specs.declared.stimulus.Stimulus.{Stimulus}
+use Rattle.vw_rows.specs.Rereadings.{SameShelf, seen_shelf}
 use Rattle.vw_rows.specs.Stimulus.{stimulus_rows, is_text_fault}
-use Rattle.vw_rows.specs.Standing.{StandsIn, GaveMore}
+use Rattle.vw_rows.specs.Standing.{GaveMore, StandsWhereHeld}
+use Rattle.vw_trace.specs.declared.engine.Batch.{Batch}
+use Rattle.vw_trace.specs.declared.fault.RunFault.{RunFault}
+use Rattle.vw_trace.specs.declared.fault.RunFault.TheVariants.{NoMemory}
+use Rattle.vw_trace.specs.Engines.{SeenEngine, HasWorked, engine_after, history_of}
+use Rattle.vw_trace.specs.Recorded.{clocks_before, no_more_clocks}
+use Rattle.vw_trace.specs.Recorders.{IsOf, SeenRecorder, Wrote}
 use Rattle.vw_trace.specs.RunFaults.{run_fault_of, run_fault_of_rows}
-use Rattle.vw_trace.specs.Streamed.{IsNotHeld, MayBeRows, EndsStreaming, DoneFor}
-use Rattle.vw_trace.specs.Steps.Recording.{Point, RecordsOut, RecordsClocks}
+use Rattle.vw_trace.specs.Streamed.{IsNotHeld, MayBeRows, EndsStreaming, Feeds, Records, StopsSilently, clocks_left}
+use Rattle.vw_trace.proofs.Silence.{always, silent_further, stops_unread, stops_unwritten}
 
 -- what histories one after the other say of a netlist
 abbrev pub HistoriesJoin : Flat → Type 0
@@ -29,21 +39,17 @@ HistoriesJoin flat = (state : List Bool) (first second : List (List Bool)) → f
 
 -- ---- what is told of the stimulus
 
--- where a text is held, it has rows
-abbrev pub HasRows : Told → ℕ → Type 0
-HasRows told width = (text : List ℕ) → told ≡ held text → (all : List (List Bool)) × (stimulus_rows width text ≡ Ok all)
-
--- so many rows of the text were read; where none is held, as many rows of the width
-pub record IsFrontOfRows (told : Told) (width : ℕ) (rows : List (List Bool)) : Type 0 where
-  pub wide : All (λ row. length row ≡ width) rows
-  pub same : (text : List ℕ) (all : List (List Bool)) → told ≡ held text → stimulus_rows width text ≡ Ok all → rows ≡ take (length rows) all
+-- so many of the rows that the stimulus still gives were read; where no text is held, as many rows of the width
+pub record IsFrontOfRows (told : Told) (stimulus : Stimulus) (rows : List (List Bool)) : Type 0 where
+  pub wide : All (λ row. length row ≡ stimulus.width) rows
+  pub same : (text : List ℕ) (all : List (List Bool)) → told ≡ held text → stimulus_rows stimulus.width text ≡ Ok all → rows ≡ take (length rows) (drop stimulus.done all)
 
 -- rows that may be those of the stimulus, of which these are the first
-pub record BeginWith (told : Told) (width : ℕ) (rows : List (List Bool)) : Type 0 where
+pub record BeginWith (told : Told) (stimulus : Stimulus) (rows : List (List Bool)) : Type 0 where
   pub whole : List (List Bool)
   pub more : List (List Bool)
   pub split : whole ≡ rows ++ more
-  pub are : MayBeRows told width whole
+  pub are : MayBeRows told stimulus whole
 
 same_text : (told : Told) (text other : List ℕ) → told ≡ held text → told ≡ held other → text ≡ other
 same_text told text other is its = subst (λ (t : Told). IsTextOf t text) its (subst (λ (t : Told). IsTextOf t text) (sym is) refl)
@@ -57,10 +63,10 @@ IsHeldText untold = ⊥
 IsHeldText absent = ⊥
 IsHeldText (held text) = Unit {0}
 
-pub begin_with : (told : Told) (width : ℕ) (rows : List (List Bool)) → HasRows told width → IsFrontOfRows told width rows → BeginWith told width rows
-begin_with told width rows has front = by told refl where
+pub begin_with : (told : Told) (stimulus : Stimulus) (rows : List (List Bool)) → StandsWhereHeld stimulus told → IsFrontOfRows told stimulus rows → BeginWith told stimulus rows
+begin_with told stimulus rows stands front = by told refl where
   -- nothing is held, so the rows so far may be all
-  alone : IsNotHeld told → BeginWith told width rows
+  alone : IsNotHeld told → BeginWith told stimulus rows
   alone none = record {
     whole = rows;
     more = [];
@@ -68,17 +74,18 @@ begin_with told width rows has front = by told refl where
     are = record { same = λ text all is said. absurd (none text is); wide = λ so. front.wide };
   }
 
-  by : (one : Told) → told ≡ one → BeginWith told width rows
+  by : (one : Told) → told ≡ one → BeginWith told stimulus rows
   by untold is = alone (λ text its. subst (λ (t : Told). IsHeldText t) (sym its ∙ is) tt)
   by absent is = alone (λ text its. subst (λ (t : Told). IsHeldText t) (sym its ∙ is) tt)
   by (held text) is =
-      let all = has text is in
+      let its = stands text is in
+      let all : List (List Bool) = drop stimulus.done its.rows in
       record {
-        whole = all.0;
-        more = drop (length rows) all.0;
-        split = sym (take-append-drop (length rows) all.0) ∙ ap (λ (r : List (List Bool)). r ++ drop (length rows) all.0) (sym (front.same text all.0 is all.1));
+        whole = all;
+        more = drop (length rows) all;
+        split = sym (take-append-drop (length rows) all) ∙ ap (λ (r : List (List Bool)). r ++ drop (length rows) all) (sym (front.same text its.rows is its.accepted));
         are = record {
-          same = λ other others its said. same_rows told width text other all.0 others is its all.1 said;
+          same = λ other others held said. ap (drop stimulus.done) (same_rows told stimulus.width text other its.rows others is held its.accepted said);
           wide = λ none. absurd (none text is);
         };
       }
@@ -89,32 +96,23 @@ front_of_front k xs next is =
     let whole : next ++ drop k xs ≡ xs = ap (λ (r : List (List Bool)). r ++ drop k xs) is ∙ take-append-drop k xs in
     sym (take_at next (drop k xs) (length next) refl) ∙ ap (take (length next)) whole
 
-pub front_further : (told : Told) (width : ℕ) (rows next : List (List Bool)) → IsFrontOfRows told width rows → All (λ row. length row ≡ width) next
-    → ((text : List ℕ) (all : List (List Bool)) → told ≡ held text → stimulus_rows width text ≡ Ok all → next ≡ take 256 (drop (length rows) all)) → IsFrontOfRows told width (rows ++ next)
-front_further told width rows next front wide same = record {
-  wide = All-append (λ row. length row ≡ width) rows next front.wide wide;
+front_further : (told : Told) (stimulus : Stimulus) (rows next : List (List Bool)) (k done : ℕ) → IsFrontOfRows told stimulus rows → All (λ row. length row ≡ stimulus.width) next → done ≡ stimulus.done + length rows
+    → ((text : List ℕ) (all : List (List Bool)) → told ≡ held text → stimulus_rows stimulus.width text ≡ Ok all → next ≡ take k (drop done all)) → IsFrontOfRows told stimulus (rows ++ next)
+front_further told stimulus rows next k done front wide count same = record {
+  wide = All-append (λ row. length row ≡ stimulus.width) rows next front.wide wide;
   same = λ text all is said.
-      ap₂ (λ (a b : List (List Bool)). a ++ b) (front.same text all is said) (front_of_front 256 (drop (length rows) all) next (same text all is said))
-      ∙ sym (take-add (length rows) (length next) all) ∙ ap (λ (n : ℕ). take n all) (sym (length-append rows next));
+      let left : List (List Bool) = drop stimulus.done all in
+      let behind : drop done all ≡ drop (length rows) left = ap (λ (n : ℕ). drop n all) count ∙ sym (drop-drop (length rows) stimulus.done all) in
+      ap₂ (λ (a b : List (List Bool)). a ++ b) (front.same text all is said) (front_of_front k (drop (length rows) left) next (same text all is said ∙ ap (take k) behind))
+      ∙ sym (take-add (length rows) (length next) left) ∙ ap (λ (n : ℕ). take n left) (sym (length-append rows next));
 }
 
 -- ---- what is done meanwhile
 
 -- what was done for the first of some rows
-pub done_for_front : (Done : List (List Bool) → Type 0) (rows more whole : List (List Bool)) → whole ≡ rows ++ more → Done rows → (count : ℕ) × Done (take count whole)
+done_for_front : (Done : List (List Bool) → Type 0) (rows more whole : List (List Bool)) → whole ≡ rows ++ more → Done rows → (count : ℕ) × Done (take count whole)
 done_for_front Done rows more whole split done =
     (length rows, subst Done (sym (ap (take (length rows)) split ∙ take_at rows more (length rows) refl)) done)
-
--- what was done for all of them, whatever the answer
-pub done_for_all : {Fault : Type 0} (Done : List (List Bool) → Type 0) (rows : List (List Bool)) (answer : Result (Unit {0}) Fault) → Done rows → DoneFor Done rows answer
-done_for_all Done rows (Ok done) all = all
-done_for_all Done rows (Err fault) all = (length rows, subst Done (sym (take_all (length rows) rows (omega arith))) all)
-
--- the first rows of a batch, behind those before it
-batch_split : (rows next more whole : List (List Bool)) (count : ℕ) → whole ≡ (rows ++ next) ++ more → whole ≡ (rows ++ take count next) ++ (drop count next ++ more)
-batch_split rows next more whole count split =
-    split ∙ ap (λ (n : List (List Bool)). (rows ++ n) ++ more) (sym (take-append-drop count next))
-    ∙ ap (λ (r : List (List Bool)). r ++ more) (sym (append_assoc rows (take count next) (drop count next))) ∙ append_assoc (rows ++ take count next) (drop count next) more
 
 -- ---- how it ends
 
@@ -138,165 +136,259 @@ module _ (name text : List ℕ) (shelf : SeenShelf) (out : SeenSink) (shelf_afte
 
 -- ---- underway
 
--- so many rows were read and their clocks written down, and what else is done for them was done; where a text is held, the
--- stimulus stands in it; all else is as it was
-pub record IsUnderway (stimulus : Stimulus) (flat : Flat) (start : Point) (Done : List (List Bool) → Type 0) (shelf : SeenShelf) (out : SeenSink)
-    (now : Stimulus) (here : Point) (shelf_now : SeenShelf) (out_now : SeenSink) : Type 0 where
-  pub rows : List (List Bool)
-  pub front : IsFrontOfRows (shelf.told stimulus.name) stimulus.width rows
-  pub count : length rows ≡ now.done
-  pub clock_is : here.clock ≡ start.clock + length rows
-  pub state_is : here.state ≡ state_after flat start.state rows
-  pub written : List ℕ
-  pub wrote : out_now ≡ appended out written
-  pub left : (more : List (List Bool)) → start.left (flat_history flat start.state (rows ++ more)) ≡ written ++ here.left (flat_history flat here.state more)
-  pub name : now.name ≡ stimulus.name
-  pub width : now.width ≡ stimulus.width
-  pub clocks : now.clocks ≡ stimulus.clocks
-  pub shelf_is : shelf_now ≡ shelf
-  pub stands : (text : List ℕ) → shelf.told stimulus.name ≡ held text → StandsIn now text
-  pub latches : length here.state ≡ latch_count flat.cells
-  pub meanwhile : Done rows
+-- the next rows of a stimulus were read, at most 256
+pub record HasNext {S : Type 0} {shelf : shelves.Ghosts S} (now after : Rereading S shelf) (next : List (List Bool)) : Type 0 where
+  pub same : SameShelf now after
+  pub kept : seen_shelf after ≡ seen_shelf now
+  pub wide : All (λ row. length row ≡ now.stimulus.now.width) next
+  pub are : (text : List ℕ) (all : List (List Bool)) → (seen_shelf now).told now.stimulus.now.name ≡ held text → stimulus_rows now.stimulus.now.width text ≡ Ok all → next ≡ take 256 (drop now.stimulus.now.done all)
+  pub gave : GaveMore (length next) now.stimulus.now after.stimulus.now
 
--- before the first batch
-pub begins : (stimulus : Stimulus) (flat : Flat) (start : Point) (Done : List (List Bool) → Type 0) (shelf : SeenShelf) (out : SeenSink) → stimulus.done ≡ 0 → ((text : List ℕ) → shelf.told stimulus.name ≡ held text → StandsIn stimulus text)
-    → length start.state ≡ latch_count flat.cells → Done [] → IsUnderway stimulus flat start Done shelf out stimulus start shelf out
-begins stimulus flat start Done shelf out fresh stands latches none = record {
-  rows = [];
-  front = record { wide = All-nil (λ row. length row ≡ stimulus.width); same = λ text all is said. refl };
-  count = sym fresh;
-  clock_is = (let e : start.clock ≡ start.clock + 0 = omega arith in e);
-  state_is = refl;
-  written = [];
-  wrote = sym (appended-nil out);
-  left = λ more. refl;
-  name = refl;
-  width = refl;
-  clocks = refl;
-  shelf_is = refl;
-  stands = stands;
-  latches = latches;
-  meanwhile = none;
-}
+-- so many rows were given and their clocks written down, and what else is done for them was done; the recorder is the engine's, and all
+-- else is as it was
+pub record IsUnderway {S : Type 0} {shelf : shelves.Ghosts S} (Done : List (List Bool) → Type 0)
+    (rows now : Rereading S shelf) (engine here : SeenEngine) (recorder written : SeenRecorder) (out out_now : SeenSink) : Type 0 where
+  pub given : List (List Bool)
+  pub front : IsFrontOfRows ((seen_shelf rows).told rows.stimulus.now.name) rows.stimulus.now given
+  pub gave : GaveMore (length given) rows.stimulus.now now.stimulus.now
+  pub same_shelf : SameShelf rows now
+  pub shelf_is : seen_shelf now ≡ seen_shelf rows
+  pub stands : here ≡ engine_after engine given
+  pub text : List ℕ
+  pub wrote : out_now ≡ appended out text
+  pub left : (more : List (List Bool)) → recorder.left (history_of engine (given ++ more)) ≡ text ++ written.left (history_of here more)
+  pub its : IsOf here written
+  pub its_waits : written.waits ≡ recorder.waits
+  pub silent : OnTrue recorder.waits (out_now ≡ out)
+  pub meanwhile : Done given
 
-module _ (stimulus : Stimulus) (flat : Flat) (join : HistoriesJoin flat) (start : Point) (Done : List (List Bool) → Type 0) (shelf : SeenShelf) (out : SeenSink) (now : Stimulus) (here : Point) (shelf_now : SeenShelf) (out_now : SeenSink)
-    (underway : IsUnderway stimulus flat start Done shelf out now here shelf_now out_now) where
-  abbrev told : Told
-  told = shelf.told stimulus.name
+-- an engine whose next clock has this number
+abbrev with_clock : SeenEngine → ℕ → SeenEngine
+with_clock engine clock = record { netlist = engine.netlist; clock = clock; state = engine.state }
 
-  abbrev rows_then : List (List Bool)
-  rows_then = underway.rows
-
-  -- the text of a whole run
-  abbrev text_of : List (List Bool) → List ℕ
-  text_of rows = start.left (flat_history flat start.state rows)
-
-  -- what is told of the stimulus is what was told before
-  told_then : shelf_now.told now.name ≡ told
-  told_then = ap₂ (λ (s : SeenShelf) (name : List ℕ). s.told name) underway.shelf_is underway.name
-
-  has : HasRows told stimulus.width
-  has = λ text is.
-      let stands = underway.stands text is in
-      (stands.rows, ap (λ (n : ℕ). stimulus_rows n text) (sym underway.width) ∙ stands.accepted)
-
-  -- what is left of the text of a run that goes on so
-  left_then : (whole more : List (List Bool)) → whole ≡ rows_then ++ more → IsLeft out (text_of whole) out_now (here.left (flat_history flat here.state more))
-  left_then whole more split = record { so_far = underway.written; seen = underway.wrote; whole = sym (underway.left more) ∙ ap text_of (sym split) }
-
-  -- the stimulus stands in each text that is held
-  pub stands_then : (text : List ℕ) → shelf_now.told now.name ≡ held text → StandsIn now text
-  stands_then text is = underway.stands text (sym told_then ∙ is)
-
-  -- rows weren't read
-  pub unread : (fault : StimFault) (last : List Bool) (left_after : History → List ℕ) (shelf_after : SeenShelf) → (fault ≡ rows_faults.ReadFault → CountsFault now.name shelf_now shelf_after) → (fault ≢ rows_faults.ReadFault → shelf_after ≡ shelf_now)
-      → ((text : List ℕ) → shelf_now.told now.name ≡ held text → is_text_fault fault ≡ false) → RecordsClocks stimulus flat start last left_after Done shelf out shelf_after out_now (Err (run_fault_of_rows fault))
-  unread fault last left_after shelf_after counts kept sure =
-      let begun = begin_with told stimulus.width rows_then has underway.front in
-      let counted : fault ≡ rows_faults.ReadFault → CountsFault stimulus.name shelf shelf_after =
-      λ is. subst (λ (s : SeenShelf). CountsFault stimulus.name s shelf_after) underway.shelf_is (subst (λ (name : List ℕ). CountsFault name shelf_now shelf_after) underway.name (counts is)) in
+module _ {S : Type 0} {shelf : shelves.Ghosts S} where
+  -- before the first batch
+  pub begins : (Done : List (List Bool) → Type 0) (rows : Rereading S shelf) (engine : SeenEngine) (recorder : SeenRecorder) (out : SeenSink) → IsOf engine recorder → Done [] → IsUnderway Done rows rows engine engine recorder recorder out out
+  begins Done rows engine recorder out its none =
+      let same_number : (n : ℕ) → n + 0 ≡ n = λ n. omega arith in
       record {
-        rows = begun.whole;
-        are = begun.are;
-        ends = ends_unread stimulus.name (text_of begun.whole) shelf out shelf_after out_now fault
-            (part_written out (text_of begun.whole) out_now (here.left (flat_history flat here.state begun.more)) (left_then begun.whole begun.more begun.split))
-            counted (λ is. kept is ∙ underway.shelf_is) (λ text is. sure text (told_then ∙ is));
-        meanwhile = done_for_front Done rows_then begun.more begun.whole begun.split underway.meanwhile;
-        all = tt;
+        given = [];
+        front = record { wide = All-nil (λ row. length row ≡ rows.stimulus.now.width); same = λ text all is said. refl };
+        gave = record { name = refl; width = refl; clocks = refl; done = sym (same_number rows.stimulus.now.done) };
+        same_shelf = refl;
+        shelf_is = refl;
+        stands = ap (with_clock engine) (sym (same_number engine.clock));
+        text = [];
+        wrote = sym (appended-nil out);
+        left = λ more. refl;
+        its = its;
+        its_waits = refl;
+        silent = always recorder.waits (out ≡ out) refl;
+        meanwhile = none;
       }
 
-  module _ (next : List (List Bool)) (shelf_after : SeenShelf) (out_after : SeenSink) (wide : All (λ row. length row ≡ now.width) next) (same : shelf_after ≡ shelf_now)
-      (are_next : (text : List ℕ) (all : List (List Bool)) → shelf_now.told now.name ≡ held text → stimulus_rows now.width text ≡ Ok all → next ≡ take 256 (drop now.done all)) where
-    front_then : IsFrontOfRows told stimulus.width (rows_then ++ next)
-    front_then = front_further told stimulus.width rows_then next underway.front
-        (subst (λ (n : ℕ). All (λ row. length row ≡ n) next) underway.width wide)
-        (λ text all is said. are_next text all (told_then ∙ is) (ap (λ (n : ℕ). stimulus_rows n text) underway.width ∙ said)
-        ∙ ap (λ (n : ℕ). take 256 (drop n all)) (sym underway.count))
+  module _ {Done : List (List Bool) → Type 0} {rows now : Rereading S shelf} {engine here : SeenEngine} {recorder written : SeenRecorder} {out out_now : SeenSink} (underway : IsUnderway Done rows now engine here recorder written out out_now) where
+    abbrev told : Told
+    told = (seen_shelf rows).told rows.stimulus.now.name
 
-    -- what is done meanwhile for further rows
-    module _ (Ran : ℕ → List Bool → List (List Bool) → Type 0) (DoneAfter : List (List Bool) → Type 0)
-        (joins : (more : List (List Bool)) → Ran (start.clock + length rows_then) (state_after flat start.state rows_then) more → DoneAfter (rows_then ++ more)) where
-      done_then : (more : List (List Bool)) → Ran here.clock here.state more → DoneAfter (rows_then ++ more)
-      done_then more ran =
-          joins more (subst (λ (n : ℕ). Ran n (state_after flat start.state rows_then) more) underway.clock_is (subst (λ (s : List Bool). Ran here.clock s more) underway.state_is ran))
+    abbrev given : List (List Bool)
+    given = underway.given
 
-      -- the clocks of a batch weren't all written down
-      pub unwritten_lines : (why : Unwritten) (last : List Bool) (left_new left_after : History → List ℕ) → RecordsOut flat next here left_new out_now out_after (Err why) → (count : ℕ) → Ran here.clock here.state (take count next)
-          → RecordsClocks stimulus flat start last left_after DoneAfter shelf out shelf_after out_after (Err (run_fault_of why))
-      unwritten_lines why last left_new left_after recorded count ran =
-          let begun = begin_with told stimulus.width (rows_then ++ next) has front_then in
-          let begun_split : begun.whole ≡ rows_then ++ (next ++ begun.more) = begun.split ∙ append_assoc rows_then next begun.more in
-          let rest = recorded.front begun.more in
-          let left : IsLeft out (text_of begun.whole) out_now (recorded.text ++ rest.0) =
-          subst (λ (r : List ℕ). IsLeft out (text_of begun.whole) out_now r) rest.1 (left_then begun.whole (next ++ begun.more) begun_split) in
-          record {
-            rows = begun.whole;
-            are = begun.are;
-            ends = ends_unwritten stimulus.name (text_of begun.whole) shelf out shelf_after out_after why (same ∙ underway.shelf_is)
-                (unwritten_in_piece out (text_of begun.whole) out_now out_after recorded.text rest.0 why left recorded.writes);
-            meanwhile = done_for_front DoneAfter (rows_then ++ take count next) (drop count next ++ begun.more) begun.whole
-                (batch_split rows_then next begun.more begun.whole count begun.split) (done_then (take count next) ran);
-            all = tt;
-          }
+    -- the text of a whole run
+    abbrev text_of : List (List Bool) → List ℕ
+    text_of these = recorder.left (history_of engine these)
 
-      -- one batch more
-      pub further : (new : Stimulus) (there : Point) → GaveMore (length next) now new → ((text : List ℕ) → shelf_now.told now.name ≡ held text → StandsIn new text)
-          → there.clock ≡ here.clock + length next → there.state ≡ state_after flat here.state next → RecordsOut flat next here there.left out_now out_after (Ok tt) → Ran here.clock here.state next
-          → IsUnderway stimulus flat start DoneAfter shelf out new there shelf_after out_after
-      further new there gave stands clock_is state_is recorded ran = record {
-        rows = rows_then ++ next;
-        front = front_then;
-        count = length-append rows_then next ∙ omega (arith, underway.count, gave.done);
-        clock_is = omega (arith, length-append rows_then next, clock_is, underway.clock_is);
-        state_is = state_is ∙ ap (λ (s : List Bool). state_after flat s next) underway.state_is ∙ sym (ap (λ history. history.last) (join start.state rows_then next));
-        written = underway.written ++ recorded.text;
-        wrote = recorded.writes ∙ ap (λ (sink : SeenSink). appended sink recorded.text) underway.wrote ∙ appended-appended out underway.written recorded.text;
-        left = λ more.
-            ap text_of (append_assoc rows_then next more) ∙ underway.left (next ++ more)
-            ∙ ap (λ (rest : List ℕ). underway.written ++ rest) (recorded.rest more ∙ ap (λ (s : List Bool). recorded.text ++ there.left (flat_history flat s more)) (sym state_is))
-            ∙ sym (append_assoc underway.written recorded.text (there.left (flat_history flat there.state more)));
-        name = gave.name ∙ underway.name;
-        width = gave.width ∙ underway.width;
-        clocks = gave.clocks ∙ underway.clocks;
-        shelf_is = same ∙ underway.shelf_is;
-        stands = λ text is. stands text (told_then ∙ is);
-        latches = ap (λ (s : List Bool). length s) state_is ∙ length-state_after flat here.state next underway.latches;
-        meanwhile = done_then next ran;
+    -- what is told of the stimulus is what was told before
+    told_then : (seen_shelf now).told now.stimulus.now.name ≡ told
+    told_then = ap₂ (λ (s : SeenShelf) (name : List ℕ). s.told name) underway.shelf_is underway.gave.name
+
+    -- what is left of the text of a run that goes on so
+    left_then : (whole more : List (List Bool)) → whole ≡ given ++ more → IsLeft out (text_of whole) out_now (written.left (history_of here more))
+    left_then whole more split = record { so_far = underway.text; seen = underway.wrote; whole = sym (underway.left more) ∙ ap text_of (sym split) }
+
+    -- the rows that come next fit the engine
+    pub columns_then : Feeds engine rows.stimulus.now → now.stimulus.now.width ≡ here.netlist.inputs
+    columns_then feeds = underway.gave.width ∙ feeds.columns ∙ ap (λ (e : SeenEngine). e.netlist.inputs) (sym underway.stands)
+
+    pub few_then : Feeds engine rows.stimulus.now → (count : ℕ) → count ≡ min 256 (clocks_left now.stimulus.now) → here.clock + count < 2 ^ 32
+    few_then feeds count is =
+        let clock : here.clock ≡ engine.clock + length given = ap (λ (e : SeenEngine). e.clock) underway.stands in
+        omega (arith, clock, is, underway.gave.done, underway.gave.clocks, feeds.few, now.stimulus.now.some_left)
+
+    -- the latch values that follow the last clock are those of the recorder
+    pub its_latches : (state : List Bool) → state ≡ here.state → length here.state ≡ latch_count here.netlist.cells → length state ≡ written.latches
+    its_latches state is latches = ap (λ (bits : List Bool). length bits) is ∙ latches ∙ sym underway.its.latches
+
+    -- it stopped before the next batch was written
+    stopped : (fault : RunFault) (after : Rereading S shelf) (engine_now : SeenEngine) (out_after : SeenSink) → SameShelf now after
+        → (whole more : List (List Bool)) → whole ≡ given ++ more → MayBeRows told rows.stimulus.now whole → EndsStreaming rows.stimulus.now.name (text_of whole) (seen_shelf rows) out (seen_shelf after) out_after (Err fault)
+        → (DoneAfter : List (List Bool) → Type 0) → ((count : ℕ) × DoneAfter (take count whole)) → OnTrue recorder.waits (StopsSilently out out_after (Err fault))
+        → Records DoneAfter rows after engine engine_now recorder out out_after (Err fault)
+    stopped fault after engine_now out_after shelf_same whole more split are ends DoneAfter done quiet = record {
+      streams = record {
+        same = shelf_same ∙ underway.same_shelf;
+        rows = whole;
+        are = are;
+        ends = ends;
+        count = tt;
+        given = tt;
+        meanwhile = (done.0, (done.1, tt));
+      };
+      silent = quiet;
+    }
+
+    -- rows weren't read
+    pub unread : (fault : StimFault) (after : Rereading S shelf) (engine_now : SeenEngine) → SameShelf now after → (fault ≡ rows_faults.ReadFault → CountsFault now.stimulus.now.name (seen_shelf now) (seen_shelf after))
+        → (fault ≢ rows_faults.ReadFault → seen_shelf after ≡ seen_shelf now) → ((text : List ℕ) → (seen_shelf now).told now.stimulus.now.name ≡ held text → is_text_fault fault ≡ false)
+        → Records Done rows after engine engine_now recorder out out_now (Err (run_fault_of_rows fault))
+    unread fault after engine_now same counts kept sure =
+        let begun = begin_with told rows.stimulus.now given rows.stands underway.front in
+        let counted : fault ≡ rows_faults.ReadFault → CountsFault rows.stimulus.now.name (seen_shelf rows) (seen_shelf after) =
+        λ is. subst (λ (s : SeenShelf). CountsFault rows.stimulus.now.name s (seen_shelf after)) underway.shelf_is (subst (λ (name : List ℕ). CountsFault name (seen_shelf now) (seen_shelf after)) underway.gave.name (counts is)) in
+        stopped (run_fault_of_rows fault) after engine_now out_now same begun.whole begun.more begun.split begun.are
+        (ends_unread rows.stimulus.now.name (text_of begun.whole) (seen_shelf rows) out (seen_shelf after) out_now fault
+        (part_written out (text_of begun.whole) out_now (written.left (history_of here begun.more)) (left_then begun.whole begun.more begun.split))
+        counted (λ is. kept is ∙ underway.shelf_is) (λ text is. sure text (told_then ∙ is)))
+        Done (done_for_front Done given begun.more begun.whole begun.split underway.meanwhile)
+        (stops_unread recorder.waits out out_now fault underway.silent)
+
+    -- the next rows were read
+    module _ {after : Rereading S shelf} {next : List (List Bool)} (read : HasNext now after next) where
+      front_then : IsFrontOfRows told rows.stimulus.now (given ++ next)
+      front_then = front_further told rows.stimulus.now given next 256 now.stimulus.now.done underway.front
+          (subst (λ (n : ℕ). All (λ row. length row ≡ n) next) underway.gave.width read.wide) underway.gave.done
+          (λ text all is said. read.are text all (told_then ∙ is) (ap (λ (n : ℕ). stimulus_rows n text) underway.gave.width ∙ said))
+
+      abbrev begun : BeginWith told rows.stimulus.now (given ++ next)
+      begun = begin_with told rows.stimulus.now (given ++ next) rows.stands front_then
+
+      begun_split : begun.whole ≡ given ++ (next ++ begun.more)
+      begun_split = begun.split ∙ append_assoc given next begun.more
+
+      -- there was no memory for their clocks
+      pub not_worked : (engine_now : SeenEngine) (DoneAfter : List (List Bool) → Type 0) → DoneAfter given → Records DoneAfter rows after engine engine_now recorder out out_now (Err NoMemory)
+      not_worked engine_now DoneAfter done =
+          stopped NoMemory after engine_now out_now read.same begun.whole (next ++ begun.more) begun_split begun.are
+          (read.kept ∙ underway.shelf_is, part_written out (text_of begun.whole) out_now (written.left (history_of here (next ++ begun.more))) (left_then begun.whole (next ++ begun.more) begun_split))
+          DoneAfter (done_for_front DoneAfter given (next ++ begun.more) begun.whole begun_split done)
+          (always recorder.waits (Unit {0}) tt)
+
+      -- they were worked out
+      module _ (join : HistoriesJoin engine.netlist) {there : SeenEngine} {batch : Batch} (worked : HasWorked here there next batch) where
+        stands_then : there ≡ engine_after engine (given ++ next)
+        stands_then = ap_worked where
+          state : List Bool
+          state = state_after engine.netlist engine.state given
+
+          ap_worked : there ≡ engine_after engine (given ++ next)
+          ap_worked =
+              let first : engine_after here next ≡ engine_after (engine_after engine given) next = ap (λ (e : SeenEngine). engine_after e next) underway.stands in
+              let clocks : engine.clock + length given + length next ≡ engine.clock + length (given ++ next) = omega (arith, length-append given next) in
+              let states : state_after engine.netlist state next ≡ state_after engine.netlist engine.state (given ++ next) = sym (ap (λ (history : History). history.last) (join engine.state given next)) in
+              worked.stands ∙ first ∙ (λ i. record { netlist = engine.netlist; clock = clocks i; state = states i })
+
+        -- a history that goes on behind these rows
+        goes_on : (more : List (List Bool)) → written.left (history_of here (next ++ more)) ≡ written.left (clocks_before batch.outputs batch.states (history_of there more))
+        goes_on more =
+            let its_join : HistoriesJoin here.netlist = subst (λ (e : SeenEngine). HistoriesJoin e.netlist) (sym underway.stands) join in
+            let later : history_of (engine_after here next) more ≡ history_of there more = ap (λ (e : SeenEngine). history_of e more) (sym worked.stands) in
+            ap written.left (its_join here.state next more)
+            ∙ ap₂ (λ (os ss : List (List Bool)). written.left (clocks_before os ss (history_of (engine_after here next) more))) (sym worked.outputs) (sym worked.states)
+            ∙ ap (λ (history : History). written.left (clocks_before batch.outputs batch.states history)) later
+
+        -- not all of them were written down
+        pub unwritten_lines : (why : Unwritten) (recorder_after : SeenRecorder) (out_after : SeenSink) (DoneAfter : List (List Bool) → Type 0) → Wrote written recorder_after batch out_now out_after (Err why) → DoneAfter (given ++ next)
+            → Records DoneAfter rows after engine there recorder out out_after (Err (run_fault_of why))
+        unwritten_lines why recorder_after out_after DoneAfter wrote done =
+            let rest = wrote.front (history_of there begun.more) in
+            let left : IsLeft out (text_of begun.whole) out_now (wrote.text ++ rest.0) =
+            subst (λ (r : List ℕ). IsLeft out (text_of begun.whole) out_now r) (goes_on begun.more ∙ rest.1) (left_then begun.whole (next ++ begun.more) begun_split) in
+            stopped (run_fault_of why) after there out_after read.same begun.whole (next ++ begun.more) begun_split begun.are
+            (ends_unwritten rows.stimulus.now.name (text_of begun.whole) (seen_shelf rows) out (seen_shelf after) out_after why (read.kept ∙ underway.shelf_is)
+            (unwritten_in_piece out (text_of begun.whole) out_now out_after wrote.text rest.0 why left wrote.writes))
+            DoneAfter (done_for_front DoneAfter (given ++ next) begun.more begun.whole begun.split done)
+            (stops_unwritten recorder.waits out out_after why)
+
+        -- one batch more
+        pub further : (recorder_after : SeenRecorder) (out_after : SeenSink) (DoneAfter : List (List Bool) → Type 0) → Wrote written recorder_after batch out_now out_after (Ok tt) → DoneAfter (given ++ next) → IsUnderway DoneAfter rows after engine there recorder recorder_after out out_after
+        further recorder_after out_after DoneAfter wrote done =
+            let count : length batch.outputs ≡ length next = ap (λ (list : List (List Bool)). length list) worked.outputs ∙ length-outputs_of here.netlist here.state next in
+            record {
+              given = given ++ next;
+              front = front_then;
+              gave = record {
+                name = read.gave.name ∙ underway.gave.name;
+                width = read.gave.width ∙ underway.gave.width;
+                clocks = read.gave.clocks ∙ underway.gave.clocks;
+                done = omega (arith, length-append given next, underway.gave.done, read.gave.done);
+              };
+              same_shelf = read.same ∙ underway.same_shelf;
+              shelf_is = read.kept ∙ underway.shelf_is;
+              stands = stands_then;
+              text = underway.text ++ wrote.text;
+              wrote = wrote.writes ∙ ap (λ (sink : SeenSink). appended sink wrote.text) underway.wrote ∙ appended-appended out underway.text wrote.text;
+              left = λ more.
+                  ap text_of (append_assoc given next more) ∙ underway.left (next ++ more)
+                  ∙ ap (λ (rest : List ℕ). underway.text ++ rest) (goes_on more ∙ wrote.rest (history_of there more))
+                  ∙ sym (append_assoc underway.text wrote.text (recorder_after.left (history_of there more)));
+              its = its_then count;
+              its_waits = wrote.stands.waits ∙ underway.its_waits;
+              silent = silent_further recorder.waits written.waits underway.its_waits out out_now out_after underway.silent wrote.silent;
+              meanwhile = done;
+            } where
+              its_then : length batch.outputs ≡ length next → IsOf there recorder_after
+              its_then count =
+                  let same : there.netlist ≡ here.netlist = ap (λ (e : SeenEngine). e.netlist) worked.stands in
+                  let clock : there.clock ≡ here.clock + length next = ap (λ (e : SeenEngine). e.clock) worked.stands in
+                  record {
+                    outputs = wrote.stands.outputs ∙ underway.its.outputs ∙ ap (λ (flat : Flat). length flat.outputs) (sym same);
+                    latches = wrote.stands.latches ∙ underway.its.latches ∙ ap (λ (flat : Flat). latch_count flat.cells) (sym same);
+                    clock = omega (arith, wrote.stands.clock, underway.its.clock, clock, count);
+                  }
+
+    -- all rows were given
+    module _ (all_done : clocks_left now.stimulus.now ≡ 0) (state : List Bool) (is : state ≡ here.state) (out_after : SeenSink) where
+      their_count : length given ≡ clocks_left rows.stimulus.now
+      their_count = omega (arith, all_done, underway.gave.done, underway.gave.clocks, now.stimulus.now.some_left)
+
+      are_all : MayBeRows told rows.stimulus.now given
+      are_all = record {
+        same = λ text all is said.
+            let stands = rows.stands text is in
+            let its = same_rows told rows.stimulus.now.width text text stands.rows all is is stands.accepted said in
+            let long : length (drop rows.stimulus.now.done all) ≡ clocks_left rows.stimulus.now =
+            length-drop rows.stimulus.now.done all ∙ ap (λ (r : List (List Bool)). length r - rows.stimulus.now.done) (sym its) ∙ ap (λ (n : ℕ). n - rows.stimulus.now.done) stands.clocks in
+            underway.front.same text all is said ∙ take_all (length given) (drop rows.stimulus.now.done all) (omega (arith, long, their_count));
+        wide = λ none. underway.front.wide;
       }
 
-  -- all rows were given
-  pub all_given : now.done ≡ now.clocks → RecordsClocks stimulus flat start here.state here.left Done shelf out shelf_now out_now (Ok tt)
-  all_given all_done = record {
-    rows = rows_then;
-    are = record {
-      same = λ text all is said.
-          let stands = underway.stands text is in
-          let same = same_rows told stimulus.width text text stands.rows all is is (ap (λ (n : ℕ). stimulus_rows n text) (sym underway.width) ∙ stands.accepted) said in
-          let long : length rows_then ≡ length all = underway.count ∙ all_done ∙ sym stands.clocks ∙ ap (λ (r : List (List Bool)). length r) same in
-          underway.front.same text all is said ∙ take_all (length rows_then) all (omega (arith, long));
-      wide = λ none. underway.front.wide;
-    };
-    ends = (underway.shelf_is, underway.written, underway.wrote, sym (underway.left []) ∙ ap text_of (append-nil rows_then));
-    meanwhile = underway.meanwhile;
-    all = (underway.count ∙ all_done ∙ underway.clocks, underway.state_is);
-  }
+      abbrev last : List ℕ
+      last = written.left (no_more_clocks state)
+
+      left_last : IsLeft out (text_of given) out_now last
+      left_last = subst (λ (bits : List Bool). IsLeft out (text_of given) out_now (written.left (no_more_clocks bits))) (sym is) (left_then given [] (sym (append-nil given)))
+
+      -- what follows the last clock wasn't written whole
+      pub no_end : (why : Unwritten) → WritesOut last out_now out_after (Err why) → Records Done rows now engine here recorder out out_after (Err (run_fault_of why))
+      no_end why failed =
+          stopped (run_fault_of why) now here out_after refl given [] (sym (append-nil given)) are_all
+          (ends_unwritten rows.stimulus.now.name (text_of given) (seen_shelf rows) out (seen_shelf now) out_after why underway.shelf_is
+          (unwritten_in_piece out (text_of given) out_now out_after last [] why
+          (subst (λ (rest : List ℕ). IsLeft out (text_of given) out_now rest) (sym (append-nil last)) left_last) failed))
+          Done (length given, subst Done (sym (take_all (length given) given (omega arith))) underway.meanwhile)
+          (stops_unwritten recorder.waits out out_after why)
+
+      -- all was written
+      pub all_recorded : out_after ≡ appended out_now last → Records Done rows now engine here recorder out out_after (Ok tt)
+      all_recorded all = record {
+        streams = record {
+          same = underway.same_shelf;
+          rows = given;
+          are = are_all;
+          ends = (underway.shelf_is, last_piece out (text_of given) out_now out_after last left_last all);
+          count = their_count;
+          given = omega (arith, all_done, underway.gave.clocks, now.stimulus.now.some_left);
+          meanwhile = (underway.meanwhile, underway.stands);
+        };
+        silent = always recorder.waits (Unit {0}) tt;
+      }

@@ -3,4 +3,5 @@ pub mod RunFaults
 pub mod Messages
 pub mod Streamed
 pub mod Recorded
-pub mod Steps
+pub mod Engines
+pub mod Recorders

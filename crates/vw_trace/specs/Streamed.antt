@@ -1,24 +1,33 @@
 -- A text that is written while a checked stimulus is read again.
-use Rattle.std.specs.Prelude.{◌≡◌, ℕ, Bool, true, List, length, take, Result, Ok, Err, OnOk}
+use Rattle.std.specs.Prelude.{◌≡◌, ◌<◌, ◌+◌, ◌-◌, ◌^◌, ℕ, Bool, true, List, length, take, drop, Result, Ok, Err, OnOk}
+use Rattle.std.specs.Bool.{OnTrue}
 use Rattle.std.specs.List.{All}
-use Rattle.vw_net.specs.declared.flat.Flat.{Flat}
-use Rattle.vw_net.specs.History.{state_after}
+use Rattle.vw_outside.specs.declared.shelf.Shelf as shelves
 use Rattle.vw_outside.specs.Told.{Told, held}
 use Rattle.vw_outside.specs.Reads.{SeenShelf, CountsFault}
 use Rattle.vw_outside.specs.Writes.{SeenSink, appended, WrotePart, FailedAfterPart}
+use Rattle.vw_rows.specs.declared.rereading.Rereading.{Rereading}
+use Rattle.vw_rows.specs.declared.stimulus.Stimulus.{Stimulus}
+use Rattle.vw_rows.specs.Rereadings.{SameShelf, seen_shelf}
 use Rattle.vw_rows.specs.Stimulus.{stimulus_rows, is_text_fault}
+use Rattle.vw_trace.specs.Engines.{SeenEngine, engine_after, history_of}
+use Rattle.vw_trace.specs.Recorders.{SeenRecorder}
 use Rattle.vw_trace.specs.declared.fault.RunFault.{RunFault}
-use Rattle.vw_trace.specs.declared.fault.RunFault.TheVariants.{ReadFault, WriteFault, Stimulus, NoMemory}
+use Rattle.vw_trace.specs.declared.fault.RunFault.TheVariants.{ReadFault, WriteFault, Stimulus as BadRows, NoMemory}
 
 -- no text is held
 abbrev pub IsNotHeld : Told → Type 0
 IsNotHeld told = (text : List ℕ) → told ≡ held text → ⊥
 
--- rows that may be those of a text of which this is told, as it is read again: where the text is held, they are its rows,
--- and else each has the width
-pub record MayBeRows (told : Told) (width : ℕ) (rows : List (List Bool)) : Type 0 where
-  pub same : (text : List ℕ) (all : List (List Bool)) → told ≡ held text → stimulus_rows width text ≡ Ok all → rows ≡ all
-  pub wide : IsNotHeld told → All (λ row. length row ≡ width) rows
+-- rows that may be those that a stimulus still gives, where this is told of its text: where the text is held, they are all rows that
+-- weren't given, and else each has the width
+pub record MayBeRows (told : Told) (stimulus : Stimulus) (rows : List (List Bool)) : Type 0 where
+  pub same : (text : List ℕ) (all : List (List Bool)) → told ≡ held text → stimulus_rows stimulus.width text ≡ Ok all → rows ≡ drop stimulus.done all
+  pub wide : IsNotHeld told → All (λ row. length row ≡ stimulus.width) rows
+
+-- how many rows a stimulus still gives
+abbrev pub clocks_left : Stimulus → ℕ
+clocks_left stimulus = stimulus.clocks - stimulus.done
 
 -- what such a run leaves of the shelf, and of a sink to which this text is written
 abbrev pub EndsStreaming : List ℕ → List ℕ → SeenShelf → SeenSink → SeenShelf → SeenSink → Result (Unit {0}) RunFault → Type 0
@@ -26,7 +35,7 @@ EndsStreaming name text shelf out shelf_after out_after (Ok done) = (shelf_after
 EndsStreaming name text shelf out shelf_after out_after (Err WriteFault) = (shelf_after ≡ shelf) × FailedAfterPart text out out_after
 EndsStreaming name text shelf out shelf_after out_after (Err NoMemory) = (shelf_after ≡ shelf) × WrotePart text out out_after
 EndsStreaming name text shelf out shelf_after out_after (Err ReadFault) = CountsFault name shelf shelf_after × WrotePart text out out_after
-EndsStreaming name text shelf out shelf_after out_after (Err (Stimulus fault)) =
+EndsStreaming name text shelf out shelf_after out_after (Err (BadRows fault)) =
     IsNotHeld (shelf.told name) × (is_text_fault fault ≡ true) × (shelf_after ≡ shelf) × WrotePart text out out_after
 
 -- what is done row by row was done for all rows, or after a fault for the first of them alone
@@ -35,25 +44,33 @@ DoneFor Done rows (Ok done) = Done rows
 DoneFor Done rows (Err fault) = (count : ℕ) × Done (take count rows)
 
 -- the text that belongs to such rows was written, or a part of it; and what else is done for them was done meanwhile
-pub record Streams (name : List ℕ) (width : ℕ) (Text : List (List Bool) → List ℕ) (Done : List (List Bool) → Type 0)
-    (shelf : SeenShelf) (out : SeenSink) (shelf_after : SeenShelf) (out_after : SeenSink) (answer : Result (Unit {0}) RunFault) : Type 0 where
+pub record Streams {S : Type 0} {shelf : shelves.Ghosts S} (Text : List (List Bool) → List ℕ) (Done : List (List Bool) → Type 0)
+    (before after : Rereading S shelf) (out out_after : SeenSink) (answer : Result (Unit {0}) RunFault) : Type 0 where
+  pub same : SameShelf before after
   pub rows : List (List Bool)
-  pub are : MayBeRows (shelf.told name) width rows
-  pub ends : EndsStreaming name (Text rows) shelf out shelf_after out_after answer
+  pub are : MayBeRows ((seen_shelf before).told before.stimulus.now.name) before.stimulus.now rows
+  pub ends : EndsStreaming before.stimulus.now.name (Text rows) (seen_shelf before) out (seen_shelf after) out_after answer
+  pub count : OnOk answer (length rows ≡ clocks_left before.stimulus.now)
+  pub given : OnOk answer (after.stimulus.now.done ≡ before.stimulus.now.clocks)
   pub meanwhile : DoneFor Done rows answer
 
--- after a success there are as many rows as this
-abbrev pub HasClocks : ℕ → Result (Unit {0}) RunFault → List (List Bool) → Type 0
-HasClocks clocks answer rows = OnOk answer (length rows ≡ clocks)
-
--- after a success there are as many rows as this, and these are the latch values after them
-abbrev pub EndsAt : Flat → List Bool → ℕ → List Bool → Result (Unit {0}) RunFault → List (List Bool) → Type 0
-EndsAt flat start clocks last answer rows = OnOk answer ((length rows ≡ clocks) × (last ≡ state_after flat start rows))
+-- the rows of a stimulus can be the next ones of an engine
+pub record Feeds (engine : SeenEngine) (stimulus : Stimulus) : Type 0 where
+  pub columns : stimulus.width ≡ engine.netlist.inputs
+  pub few : engine.clock + clocks_left stimulus < 2 ^ 32
 
 -- where the rows couldn't be read again, out is as it was
 abbrev pub StopsSilently : SeenSink → SeenSink → Result (Unit {0}) RunFault → Type 0
 StopsSilently out out_after (Ok done) = Unit {0}
 StopsSilently out out_after (Err ReadFault) = out_after ≡ out
-StopsSilently out out_after (Err (Stimulus fault)) = out_after ≡ out
+StopsSilently out out_after (Err (BadRows fault)) = out_after ≡ out
 StopsSilently out out_after (Err WriteFault) = Unit {0}
 StopsSilently out out_after (Err NoMemory) = Unit {0}
+
+-- an engine has worked out the rows that a stimulus still gives, and what a recorder makes of them was written, or a part of it; a
+-- recorder that waits wrote nothing before its end
+pub record Records {S : Type 0} {shelf : shelves.Ghosts S} (Done : List (List Bool) → Type 0) (rows rows_after : Rereading S shelf) (engine engine_now : SeenEngine)
+    (recorder : SeenRecorder) (out out_after : SeenSink) (answer : Result (Unit {0}) RunFault) : Type 0 where
+  pub streams : Streams (λ these. recorder.left (history_of engine these)) (λ these. Done these × OnOk answer (engine_now ≡ engine_after engine these))
+      rows rows_after out out_after answer
+  pub silent : OnTrue recorder.waits (StopsSilently out out_after answer)

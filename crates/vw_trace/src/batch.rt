@@ -80,6 +80,7 @@ pub fn run_batch(
     ensures states { IfOk result (λ batch. batch.states
         ≡ states_of simulator.now.flat state.old rows.now) }
     ensures state { IfOk result (λ _. state.new ≡ state_after simulator.now.flat state.old rows.now) }
+    ensures latches { length state.new ≡ latch_count simulator.now.flat.cells }
     ensures nets { length values.new ≡ length values.old }
 {
     let outputs = simulator.flat().outputs().len();

@@ -1,9 +1,8 @@
 //! What works out the clocks of a netlist, so that one writer of traces serves all that do.
-ghost use Rattle.std.specs.Prelude.{◌≡◌, ◌<◌, ◌+◌, ◌^◌, ℕ, length, IfOk, OnOk};
+ghost use Rattle.std.specs.Prelude.{◌≡◌, ◌<◌, ◌+◌, ◌^◌, length, IfOk};
 ghost use Rattle.std.specs.List.{All};
-ghost use Rattle.vw_net.specs.declared.flat.Flat.{Flat};
 ghost use Rattle.vw_net.specs.Cells.{latch_count};
-ghost use Rattle.vw_net.specs.History.{outputs_of, states_of, state_after};
+ghost use Rattle.vw_trace.specs.Engines.{HasWorked, SeenEngine};
 
 use std::alloc::{AllocError, Global};
 use vw_net::{Bits, Flat, Rows};
@@ -25,30 +24,29 @@ impl Drop for Batch {
 
 /// What works out the clocks of a netlist, batch by batch: a simulator of it, or a board that it was planned on.
 pub trait Engine {
-    /// The netlist.
-    ghost netlist: { Self → Flat };
-
-    /// How many clocks it has worked out, and so the number of the next one, counted from 0.
-    ghost done: { Self → ℕ };
+    /// Its netlist, and where it stands: the number of the next clock, counted from 0, and the latch values before it.
+    ghost seen: { Self → SeenEngine };
 
     /// The netlist.
     fn flat(&self) -> &Flat
-        ensures { result.now ≡ netlist self.now };
+        ensures { result.now ≡ (seen self.now).netlist };
 
-    /// Works out the next clocks, those of some rows. `state` has the value of each latch before the first of them, in
-    /// the order of the cells, and gets those after the last.
+    /// The number of the next clock, counted from 0.
+    fn clock(&self) -> u64
+        ensures { result ≡ (seen self.now).clock };
+
+    /// The value of each latch before the next clock, in the order of the cells.
+    fn state(&self) -> &Bits
+        ensures value { result.now ≡ (seen self.now).state }
+        ensures latches { length (seen self.now).state ≡ latch_count (seen self.now).netlist.cells };
+
+    /// Works out the next clocks, those of some rows.
     ///
     /// It takes memory for these clocks, all of it before the first. Where there is none, no clock was worked out, and
-    /// nothing is known of `state` and of the count.
-    fn work_out(&mut self, alloc: Global, rows: Rows, state: &mut Bits) -> Result<Batch, AllocError>
-        requires columns { All (λ row. length row ≡ (netlist self.old).inputs) rows }
-        requires latches { length state.old ≡ latch_count (netlist self.old).cells }
-        requires few { done self.old + length rows < 2 ^ 32 }
-        ensures netlist { netlist self.new ≡ netlist self.old }
-        ensures done { OnOk result (done self.new ≡ done self.old + length rows) }
-        ensures outputs { IfOk result (λ batch. batch.outputs
-            ≡ outputs_of (netlist self.old) state.old rows) }
-        ensures states { IfOk result (λ batch. batch.states
-            ≡ states_of (netlist self.old) state.old rows) }
-        ensures state { OnOk result (state.new ≡ state_after (netlist self.old) state.old rows) };
+    /// nothing is known of where it stands.
+    fn work_out(&mut self, alloc: Global, rows: Rows) -> Result<Batch, AllocError>
+        requires columns { All (λ row. length row ≡ (seen self.old).netlist.inputs) rows }
+        requires few { (seen self.old).clock + length rows < 2 ^ 32 }
+        ensures netlist { (seen self.new).netlist ≡ (seen self.old).netlist }
+        ensures worked { IfOk result (HasWorked (seen self.old) (seen self.new) rows) };
 }

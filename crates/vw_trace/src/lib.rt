@@ -14,7 +14,7 @@ mod trace_recorder;
 pub use engine::{Batch, Engine};
 pub use fault::RunFault;
 pub use record::{BATCH, record_run};
-pub use recorder::Recorder;
+pub use recorder::{Recorder, write_batch};
 pub use simulation::Simulation;
 pub use trace::{write_head, write_trace, write_trace_by};
 pub use trace_recorder::TraceRecorder;

@@ -1,12 +1,11 @@
 //! Works out the clocks of a netlist, and writes its trace piece by piece.
-ghost use Rattle.std.specs.Prelude.{◌≡◌, ◌≤◌, ℕ, ◌-◌, List, length, OnOk};
+ghost use Rattle.std.specs.Prelude.{◌≡◌, ◌≤◌, ◌-◌, length, OnOk};
 ghost use Rattle.vw_net.specs.Cells.{latch_count};
-ghost use Rattle.vw_outside.specs.Told.{held};
 ghost use Rattle.vw_outside.specs.Writes.{WritesOut};
-ghost use Rattle.vw_rows.specs.Standing.{StandsIn};
 ghost use Rattle.vw_rows.specs.Trace.{head_text};
+ghost use Rattle.vw_trace.specs.Engines.{engine_after};
 ghost use Rattle.vw_trace.specs.FlatTrace.{trace_from, flat_trace};
-ghost use Rattle.vw_trace.specs.Streamed.{HasClocks, Streams};
+ghost use Rattle.vw_trace.specs.Streamed.{Feeds, Streams};
 
 use crate::engine::Engine;
 use crate::fault::RunFault;
@@ -16,7 +15,7 @@ use crate::trace_recorder::TraceRecorder;
 use std::alloc::Global;
 use vw_net::{Bits, Flat, Ordered};
 use vw_outside::{Shelf, Sink, Unwritten, put_text};
-use vw_rows::{Stimulus, trace_head};
+use vw_rows::{Rereading, trace_head};
 
 /// Writes the first line of a trace, whose latches have these values at first. The last `probes` outputs of the netlist are
 /// probes. It takes memory for the line. Where a write fails or there is no memory, a front of the line was appended.
@@ -38,100 +37,51 @@ pub fn write_head<O: Sink>(
     put_text(head, out)
 }
 
-/// Works out the clocks of a stimulus, of which nothing was given, from a state on, and writes the trace. The last `probes`
-/// outputs of the netlist are probes.
-fn write_lines<E: Engine, S: Shelf, O: Sink>(
-    alloc: Global,
-    engine: &mut E,
-    probes: u32,
-    stimulus: &mut Stimulus,
-    state: &mut Bits,
-    shelf: &mut S,
-    out: &mut O,
-) -> Result<(), RunFault>
-    requires columns { stimulus.old.width ≡ (E.netlist engine.old).inputs }
-    requires fresh { stimulus.old.done ≡ 0 }
-    requires stands { (text : List ℕ) → (S.seen shelf.old).told stimulus.old.name ≡ held text
-        → StandsIn stimulus.old text }
-    requires latches { length state.old ≡ latch_count (E.netlist engine.old).cells }
-    requires unstarted { E.done engine.old ≡ 0 }
-    requires probes { probes ≤ length (E.netlist engine.old).outputs }
-    ensures streams { Streams stimulus.old.name stimulus.old.width
-        (trace_from probes 0 state.old (E.netlist engine.old)) (HasClocks stimulus.old.clocks result)
-        (S.seen shelf.old) (O.seen out.old) (S.seen shelf.new) (O.seen out.new) result }
-    ensures done { OnOk result (stimulus.new.done ≡ stimulus.old.clocks) }
-    ensures all { OnOk result (E.done engine.new ≡ stimulus.old.clocks) }
-{
-    write_head(alloc, engine.flat(), probes, state, out)?;
-    let mut recorder = TraceRecorder::make(engine.flat(), 0, state);
-    record_run(alloc, engine, &mut recorder, stimulus, state, shelf, out)
-}
-
-/// Has an engine work out the clocks of a checked stimulus, of which nothing was given, and appends the trace of its
-/// netlist. The last `probes` outputs of the netlist are probes. Free latches start at `unknown`. The stimulus is read
-/// again in batches of 256 clocks, and memory is taken for one batch at a time: all but that of its lines before its first
-/// clock. Where a read or a write fails or memory runs out, a front of the trace was appended. Where nothing is told of the
-/// text of the stimulus, it may have changed since it was checked: then it may be found at fault, or the trace is that of
-/// other rows with the same width, as many as were counted. The engine begins with its first clock, and after a success it
-/// has worked out each once.
+/// Has an engine work out the clocks of all rows that a stimulus still gives, from where it stands, and appends the trace of
+/// its netlist. The last `probes` outputs of the netlist are probes. The stimulus is read again in batches of 256 clocks, and
+/// memory is taken for one batch at a time: all but that of its lines before its first clock. Where a read or a write fails
+/// or memory runs out, a front of the trace was appended. Where nothing is told of the text of the stimulus, it may have
+/// changed since it was checked: then it may be found at fault, or the trace is that of other rows with the same width, as
+/// many as were counted. After a success the engine has worked out each clock once.
 pub fn write_trace_by<E: Engine, S: Shelf, O: Sink>(
     alloc: Global,
     engine: &mut E,
     probes: u32,
-    unknown: bool,
-    stimulus: &mut Stimulus,
-    shelf: &mut S,
+    rows: &mut Rereading<'_, '_, S>,
     out: &mut O,
 ) -> Result<(), RunFault>
-    requires columns { stimulus.old.width ≡ (E.netlist engine.old).inputs }
-    requires fresh { stimulus.old.done ≡ 0 }
-    requires stands { (text : List ℕ) → (S.seen shelf.old).told stimulus.old.name ≡ held text
-        → StandsIn stimulus.old text }
-    requires unstarted { E.done engine.old ≡ 0 }
-    requires probes { probes ≤ length (E.netlist engine.old).outputs }
-    ensures streams { Streams stimulus.old.name stimulus.old.width
-        (flat_trace probes unknown (E.netlist engine.old))
-        (HasClocks stimulus.old.clocks result)
-        (S.seen shelf.old) (O.seen out.old) (S.seen shelf.new) (O.seen out.new) result }
-    ensures done { OnOk result (stimulus.new.done ≡ stimulus.old.clocks) }
-    ensures all { OnOk result (E.done engine.new ≡ stimulus.old.clocks) }
+    requires feeds { Feeds (E.seen engine.old) rows.old.stimulus.now }
+    requires probes { probes ≤ length (E.seen engine.old).netlist.outputs }
+    ensures { let seen = E.seen engine.old in
+        Streams (trace_from probes seen.clock seen.state seen.netlist)
+        (λ these. OnOk result (E.seen engine.new ≡ engine_after seen these))
+        rows.old rows.new (O.seen out.old) (O.seen out.new) result }
 {
-    let mut state = engine.flat().start(alloc, unknown)?;
-    write_lines(alloc, engine, probes, stimulus, &mut state, shelf, out)
+    write_head(alloc, engine.flat(), probes, engine.state(), out)?;
+    let mut recorder = TraceRecorder::make(engine.flat(), engine.clock(), engine.state());
+    record_run(alloc, engine, rows, &mut recorder, out)
 }
 
-/// Runs a netlist over a checked stimulus, of which nothing was given, and appends its trace. The last `probes` outputs of
-/// the netlist are probes. Free latches start at `unknown`. The stimulus is read again in batches of 256 clocks, and memory
-/// is taken for one batch at a time. Where a read or a write fails or memory runs out, a front of the trace was appended.
-/// Where nothing is told of the text of the stimulus, it may have changed since it was checked: then it may be found at
-/// fault, or the trace is that of other rows with the same width, as many as were counted.
+/// Runs a netlist over all rows that a stimulus still gives, and appends its trace. The last `probes` outputs of the netlist
+/// are probes. Free latches start at `unknown`. The stimulus is read again in batches of 256 clocks, and memory is taken for
+/// one batch at a time. Where a read or a write fails or memory runs out, a front of the trace was appended. Where nothing is
+/// told of the text of the stimulus, it may have changed since it was checked: then it may be found at fault, or the trace is
+/// that of other rows with the same width, as many as were counted.
 pub fn write_trace<S: Shelf, O: Sink>(
     alloc: Global,
     ordered: &Ordered,
     probes: u32,
     unknown: bool,
-    stimulus: &mut Stimulus,
-    shelf: &mut S,
+    rows: &mut Rereading<'_, '_, S>,
     out: &mut O,
 ) -> Result<(), RunFault>
-    requires columns { stimulus.old.width ≡ ordered.now.flat.inputs }
-    requires fresh { stimulus.old.done ≡ 0 }
-    requires stands { (text : List ℕ) → (S.seen shelf.old).told stimulus.old.name ≡ held text
-        → StandsIn stimulus.old text }
+    requires columns { rows.old.stimulus.now.width ≡ ordered.now.flat.inputs }
     requires probes { probes ≤ length ordered.now.flat.outputs }
-    ensures streams { Streams stimulus.old.name stimulus.old.width
-        (flat_trace probes unknown ordered.now.flat) (HasClocks stimulus.old.clocks result) (S.seen shelf.old) (O.seen out.old)
-        (S.seen shelf.new) (O.seen out.new) result }
-    ensures done { OnOk result (stimulus.new.done ≡ stimulus.old.clocks) }
+    ensures shelf { rows.new.shelf.ghost_name ≡ rows.old.shelf.ghost_name }
+    ensures streams { Streams (flat_trace probes unknown ordered.now.flat) (λ _. Unit {0})
+        rows.old rows.new (O.seen out.old) (O.seen out.new) result }
 {
-    let mut simulation = Simulation::make(alloc, ordered)?;
-    write_trace_by(
-        alloc,
-        &mut simulation,
-        probes,
-        unknown,
-        stimulus,
-        shelf,
-        out,
-    )
+    let start = ordered.flat().start(alloc, unknown)?;
+    let mut simulation = Simulation::make(alloc, ordered, start)?;
+    write_trace_by(alloc, &mut simulation, probes, rows, out)
 }

@@ -40,19 +40,13 @@ impl Recorder for TraceRecorder {
     ghost use Rattle.std.specs.Prelude.{false};
     ghost use Rattle.vw_rows.specs.Trace.{trace_lines_from};
 
-    ghost left = { λ recorder. trace_lines_from recorder.clocks };
-
-    ghost outputs = { λ recorder. recorder.outputs };
-
-    ghost latches = { λ recorder. recorder.latches };
-
-    ghost clocks = { λ recorder. recorder.clocks };
-
-    ghost waits = { λ _. false };
-
-    fn next_clock(&self) -> u64 {
-        self.clocks
-    }
+    ghost seen = { λ recorder. record {
+      left = trace_lines_from recorder.clocks;
+      outputs = recorder.outputs;
+      latches = recorder.latches;
+      clock = recorder.clocks;
+      waits = false;
+    } };
 
     fn lines(&mut self, alloc: Global, batch: &Batch) -> Result<Vec<u8>, AllocError> {
         let text = trace_rows(alloc, self.clocks, &batch.outputs, &batch.states)?;

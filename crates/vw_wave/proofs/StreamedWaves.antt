@@ -1,13 +1,9 @@
--- A wave that is written while a checked stimulus is read again.
-use Rattle.std.proofs.Common.{◌≡◌, ◌++◌, ◌∙◌, ℕ, Bool, List, length, Result, sym, subst}
+-- A wave that is written over what a netlist does.
+use Rattle.std.proofs.Common.{◌≡◌, ◌++◌, ◌∙◌, ℕ, Bool, List, length, sym}
 use Rattle.vw_net.specs.declared.flat.Flat.{Flat}
 use Rattle.vw_net.specs.History.{History, flat_history}
 use Rattle.vw_net.proofs.Counts.{length-outputs_of, length-states_of}
-use Rattle.vw_outside.specs.Reads.{SeenShelf}
-use Rattle.vw_outside.specs.Writes.{SeenSink}
 use Rattle.vw_text.specs.Physical.{lines_text}
-use Rattle.vw_trace.specs.declared.fault.RunFault.{RunFault}
-use Rattle.vw_trace.specs.Streamed.{Streams, EndsStreaming}
 use Rattle.vw_vcd.specs.Lines.{lines_of_head, wave_text}
 use Rattle.vw_vcd.specs.Progress.{Progress}
 use Rattle.vw_wave.specs.FlatWave.{signal_rows, wave_from, wave_left}
@@ -21,14 +17,3 @@ IsFresh seen = (names : List (List ℕ)) (history : History) → length history.
 pub whole_wave : (seen : Progress) → IsFresh seen → (names : List (List ℕ)) (state : List Bool) (flat : Flat) (rows : List (List Bool))
     → lines_text (lines_of_head names) ++ wave_left seen (flat_history flat state rows) ≡ wave_from names state flat rows
 whole_wave seen fresh names state flat rows = fresh names (flat_history flat state rows) (length-outputs_of flat state rows ∙ sym (length-states_of flat state rows))
-
--- the same text in other words
-pub other_text : (name : List ℕ) (width : ℕ) (One Other : List (List Bool) → List ℕ) → ((rows : List (List Bool)) → One rows ≡ Other rows) → (Done : List (List Bool) → Type 0)
-    (shelf : SeenShelf) (out : SeenSink) (shelf_after : SeenShelf) (after : SeenSink) (answer : Result (Unit {0}) RunFault)
-    → Streams name width One Done shelf out shelf_after after answer → Streams name width Other Done shelf out shelf_after after answer
-other_text name width One Other same Done shelf out shelf_after after answer streams = record {
-  rows = streams.rows;
-  are = streams.are;
-  ends = subst (λ (text : List ℕ). EndsStreaming name text shelf out shelf_after after answer) (same streams.rows) streams.ends;
-  meanwhile = streams.meanwhile;
-}

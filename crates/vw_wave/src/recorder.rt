@@ -118,19 +118,13 @@ impl Recorder for WaveRecorder {
     ghost use Rattle.std.specs.Prelude.{false};
     ghost use Rattle.vw_wave.specs.FlatWave.{wave_left};
 
-    ghost left = { λ recorder. wave_left recorder.wave };
-
-    ghost outputs = { λ recorder. recorder.outputs };
-
-    ghost latches = { λ recorder. recorder.latches };
-
-    ghost clocks = { λ recorder. recorder.wave.clocks };
-
-    ghost waits = { λ _. false };
-
-    fn next_clock(&self) -> u64 {
-        self.wave.clocks()
-    }
+    ghost seen = { λ recorder. record {
+      left = wave_left recorder.wave;
+      outputs = recorder.outputs;
+      latches = recorder.latches;
+      clock = recorder.wave.clocks;
+      waits = false;
+    } };
 
     fn lines(&mut self, alloc: Global, batch: &Batch) -> Result<Vec<u8>, AllocError> {
         let mut text = Vec::new(alloc);

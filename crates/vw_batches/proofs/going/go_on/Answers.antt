@@ -1,18 +1,12 @@
-use Rattle.std.proofs.Common.{subst}
-use Rattle.vw_net.specs.History.{flat_history}
-use Rattle.vw_plan.specs.declared.checked.Checked.{Checked}
-use Rattle.vw_plan.specs.PlannedBoard.{planned_board}
-use Rattle.vw_trace.specs.Streamed.{Streams}
-use Rattle.vw_batches.specs.Runs.{HaveRun}
+use Rattle.std.proofs.Common.{refl}
+use Rattle.vw_prog.specs.Scripts.{planned_of}
+use Rattle.vw_batches.proofs.LinkWords.{none_carried}
+use Rattle.vw_batches.proofs.OtherRecords.{records_as}
 use Rattle.vw_batches.proofs.going.go_on.Goals as goal
 
--- the board has its plan, whatever the number of its next clock
-pub returns-clause-streams : goal.returns-clause-streams
-returns-clause-streams g c =
-    let stimulus = c.args.stimulus.now in
-    let recorder = c.args.recorder.now in
-    subst (λ (checked : Checked). Streams stimulus.name stimulus.width (λ rows. g.R.Recorder.left recorder (flat_history checked.ordered.flat c.args.state.now rows))
-    (HaveRun c.args.workers (planned_board checked.ordered checked.board checked.plan) (g.R.Recorder.clocks recorder) c.args.state.now (g.F.Fabric.carried c.args.fabric.now) (g.F.Fabric.carried c.run_on.new.fabric)
-    stimulus.clocks c.run_on.new.state c.run_on.result)
-    (g.S.Shelf.seen c.args.shelf.now) (g.O.Sink.seen c.args.out.now) (g.S.Shelf.seen c.run_on.new.shelf) (g.O.Sink.seen c.run_on.new.out) c.run_on.result)
-    c.number_from.ensures.checked c.run_on.ensures.streams
+-- one worker needs no link
+pub returns-then-floor-lt2-clause-records : goal.returns-then-floor-lt2-clause-records
+returns-then-floor-lt2-clause-records g c =
+    let job = c.args.board.now.job in
+    let carried = g.F.Fabric.carried c.args.floor.now.fabric.now in
+    records_as (λ these done. none_carried c.args.floor.now.workers c.if-floor-lt2.true (planned_of job) job.first job.start these carried carried refl) c.record_run.ensures

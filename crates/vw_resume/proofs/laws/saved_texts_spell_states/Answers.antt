@@ -1,4 +1,4 @@
-use Rattle.vw_resume.proofs.Ran.{saved_spells}
+use Rattle.vw_resume.proofs.SavedStates.{saved_spells}
 use Rattle.vw_resume.proofs.laws.saved_texts_spell_states.Goals as goal
 
 pub returns : goal.returns

@@ -1,14 +1,18 @@
-use Rattle.std.proofs.Common.{Err, subst}
+use Rattle.std.proofs.Common.{◌∙◌, ◌+◌, ℕ, List, Bool, [], length, sym, ap, ap₂}
 use Rattle.std.proofs.lemmas.Result.{err_from_is_err_and}
+use Rattle.vw_net.specs.declared.flat.Flat.{Flat}
 use Rattle.vw_net.specs.Cells.{start_values}
+use Rattle.vw_net.specs.History.{outputs_of, state_after}
+use Rattle.vw_outside.proofs.PiecesWritten.{appended-nil}
 use Rattle.vw_plan.specs.declared.checked.Checked.{Checked}
 use Rattle.vw_plan.specs.PlannedBoard.{planned_board}
-use Rattle.vw_trace.specs.declared.fault.RunFault.TheVariants.{NoMemory}
-use Rattle.vw_trace.specs.Streamed.{HasClocks, Streams}
-use Rattle.vw_trace.proofs.StreamedTexts.{nothing_streamed}
+use Rattle.vw_trace.proofs.StreamedTexts.{headed, nothing_streamed}
 use Rattle.vw_batches.specs.Traffic.{HaveCarried}
 use Rattle.vw_batches.proofs.JoinedTraffic.{after_no_rows}
+use Rattle.vw_batches.proofs.StartedBoards.{its_words}
 use Rattle.vw_resume.specs.Saved.{saved_text}
+use Rattle.vw_resume.specs.States.{state_text}
+use Rattle.vw_resume.proofs.SavedStates.{saved_is}
 use Rattle.vw_resume.proofs.saving.save.Goals as goal
 
 -- there was no memory for the board
@@ -17,22 +21,29 @@ returns-in_err-board-clause-streams g c =
     let checked = c.args.checked in
     let planned = planned_board checked.ordered checked.board checked.plan in
     let start = start_values c.args.unknown checked.ordered.flat.cells in
-    let links = g.F.Fabric.carried c.args.fabric.now in
+    let carried = g.F.Fabric.carried c.args.floor.now.fabric.now in
     let p = err_from_is_err_and c.from_residual.result c.from_residual.ensures.1 in
     rw (p.1, p.2)
-    (nothing_streamed c.args.stimulus.now (saved_text c.args.unknown checked.ordered.flat) (λ rows. HaveCarried c.args.workers planned 0 start links links rows × HasClocks c.args.stimulus.now.clocks (Err NoMemory) rows) (g.S.Shelf.seen c.args.shelf.now) (g.O.Sink.seen c.args.out.now)
-    c.requires.stands (after_no_rows planned 0 start c.args.workers links, tt))
+    (nothing_streamed c.args.rows.now (saved_text c.args.unknown checked.ordered.flat) (HaveCarried c.args.floor.now.workers planned 0 start carried carried)
+    (after_no_rows planned 0 start c.args.floor.now.workers carried) (g.O.Sink.seen c.args.out.now))
 
 pub returns-in_err-board-clause-silent : goal.returns-in_err-board-clause-silent
 returns-in_err-board-clause-silent g c =
     let p = err_from_is_err_and c.from_residual.result c.from_residual.ensures.1 in
     rw (p.1, p.2) tt
 
--- the board has the plan
+-- the board has the plan, and stands before the first clock
 pub returns-clause-streams : goal.returns-clause-streams
 returns-clause-streams g c =
-    subst (λ (checked : Checked). Streams c.args.stimulus.now.name c.args.stimulus.now.width (saved_text c.args.unknown checked.ordered.flat)
-    (λ rows. HaveCarried c.args.workers (planned_board checked.ordered checked.board checked.plan) 0 (start_values c.args.unknown checked.ordered.flat.cells) (g.F.Fabric.carried c.args.fabric.now) (g.F.Fabric.carried c.save_board.new.fabric) rows
-    × HasClocks c.args.stimulus.now.clocks c.save_board.result rows)
-    (g.S.Shelf.seen c.args.shelf.now) (g.O.Sink.seen c.args.out.now) (g.S.Shelf.seen c.save_board.new.shelf) (g.O.Sink.seen c.save_board.new.out) c.save_board.result)
-    c.in_ok-board.ensures.checked c.save_board.ensures.streams
+    let its = c.in_ok-board.ensures in
+    let job = c.in_ok-board.board.job in
+    let before = g.O.Sink.seen c.args.out.now in
+    let start = start_values c.args.unknown c.args.checked.ordered.flat.cells in
+    let text : ℕ → Flat → List Bool → List (List Bool) → List ℕ = λ clock flat state these. state_text (clock + length (outputs_of flat state these)) (state_after flat state these) in
+    headed [] (saved_text c.args.unknown c.args.checked.ordered.flat) before (sym (appended-nil before))
+    (λ these.
+    ap (λ (clock : ℕ). text clock job.checked.ordered.flat job.start these) c.make-recorder.ensures.clocks
+    ∙ ap₂ (λ (checked : Checked) (state : List Bool). text 0 checked.ordered.flat state these) its.checked its.state
+    ∙ saved_is c.args.unknown c.args.checked.ordered.flat these)
+    (λ these done. its_words job its.checked its.clock its.state these c.args.floor.now.workers (g.F.Fabric.carried c.args.floor.now.fabric.now) (g.F.Fabric.carried c.go_on.new.floor.fabric.now) done.0)
+    c.go_on.ensures.records

@@ -1,21 +1,10 @@
-use Rattle.std.proofs.Common.{None}
 use Rattle.vw_top.proofs.CalledWords.{called_by}
 use Rattle.vw_top.proofs.commands.virtual_wires.Goals as goal
 
--- with a runtime
-pub returns-then-needs_runtime-clause-headline : goal.returns-then-needs_runtime-clause-headline
-returns-then-needs_runtime-clause-headline g c =
-    c.headline.ensures.spelled c.args.words.now _ (called_by c.args.words.now _ c.command_of-command.ensures _ c.together.ensures.called)
-
-pub returns-then-needs_runtime-clause-promise : goal.returns-then-needs_runtime-clause-promise
-returns-then-needs_runtime-clause-promise g c =
-    c.promises.ensures _ _ (called_by c.args.words.now _ c.command_of-command.ensures _ c.together.ensures.called)
-
--- without one, whatever links have carried
 pub returns-clause-headline : goal.returns-clause-headline
 returns-clause-headline g c =
-    c.headline.ensures.spelled c.args.words.now _ (called_by c.args.words.now _ c.command_of-command.ensures _ (c.without_runtime.ensures None))
+    c.headline.ensures.spelled c.args.words.now _ (called_by c.args.words.now _ c.command_of-command.ensures _ c.together.ensures.called)
 
 pub returns-clause-promise : goal.returns-clause-promise
 returns-clause-promise g c =
-    c.promises.ensures _ _ (called_by c.args.words.now _ c.command_of-command.ensures _ (c.without_runtime.ensures None))
+    c.promises.ensures _ _ (called_by c.args.words.now _ c.command_of-command.ensures _ c.together.ensures.called)

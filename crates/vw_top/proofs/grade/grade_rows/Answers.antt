@@ -13,18 +13,18 @@ use Rattle.vw_top.proofs.grade.grade_rows.Given.{Over}
 use Rattle.vw_top.proofs.grade.grade_rows.Goals.{In_ok-start}
 use Rattle.vw_top.proofs.grade.grade_rows.Goals as goal
 
-pub returns-in_err-start : goal.returns-in_err-start
-returns-in_err-start g c =
+pub returns-in_err-start-clause-streams : goal.returns-in_err-start-clause-streams
+returns-in_err-start-clause-streams g c =
     let p = err_from_is_err_and c.from_residual.result c.from_residual.ensures.1 in
     rw (p.1, p.2)
-    (nothing_streamed c.args.stimulus.now (flat_grading c.args.names.now c.args.unknown c.args.ordered.now.flat) (λ rows. Unit {0}) (g.S.Shelf.seen c.args.shelf.now) (g.O.Sink.seen c.args.out.now) c.requires.stands tt)
+    (nothing_streamed c.args.again.now (flat_grading c.args.names.now c.args.unknown c.args.ordered.now.flat) (λ rows. Unit {0}) tt (g.O.Sink.seen c.args.out.now))
 
-pub returns-in_err-rows : goal.returns-in_err-rows
-returns-in_err-rows g c =
+pub returns-in_err-rows-clause-streams : goal.returns-in_err-rows-clause-streams
+returns-in_err-rows-clause-streams g c =
     let e = c.in_err-rows.ensures in
     let p = err_from_is_err_and c.from_residual-in_err-rows.result c.from_residual-in_err-rows.ensures.1 in
     rw (p.1, p.2)
-    (no_rows c.args.stimulus.now (flat_grading c.args.names.now c.args.unknown c.args.ordered.now.flat) (g.S.Shelf.seen c.args.shelf.now) (g.O.Sink.seen c.args.out.now) c.requires.stands c.in_err-rows.field-0.0 (g.S.Shelf.seen c.next_batch.new.shelf)
+    (no_rows c.args.again.now c.next_batch.new.self e.shelf (flat_grading c.args.names.now c.args.unknown c.args.ordered.now.flat) (g.O.Sink.seen c.args.out.now) c.in_err-rows.field-0.0
     (λ same. e.fault (ap (λ (fault : StimFault). Err fault) same)) (λ differs. e.kept (λ same. differs (let is = same in cc))) e.sure)
 
 -- the state starts with the start values
@@ -36,26 +36,26 @@ grading_text-text-requires-clause-latches g c κs within =
     let at = goal.at.grading_text-text-requires-clause-latches g c in
     ap (λ (bits : List Bool). length bits) (starts g at.In_ok-start) ∙ length-start_values c.args.unknown c.args.ordered.now.flat.cells
 
-pub returns-in_err-put_text : goal.returns-in_err-put_text
-returns-in_err-put_text g c =
-    let at = goal.at.returns-in_err-put_text g c in
+pub returns-in_err-put_text-clause-streams : goal.returns-in_err-put_text-clause-streams
+returns-in_err-put_text-clause-streams g c =
+    let at = goal.at.returns-in_err-put_text-clause-streams g c in
     let p = err_from_is_err_and c.from_residual-in_err-put_text.result c.from_residual-in_err-put_text.ensures.1 in
     let names = c.args.names.now in
     let flat = c.args.ordered.now.flat in
     let rows = c.in_ok-rows.rows in
+    let read = c.in_ok-rows.ensures in
     let text = flat_grading names c.args.unknown flat in
     let made = subst (λ (start : List Bool). IfOk c.grading_text-text.result (λ its. its.items ≡ grading_text names flat start rows)) (starts g at.In_ok-start) c.grading_text-text.ensures in
     rw (p.1, p.2)
-    (not_written c.args.stimulus.now text (g.S.Shelf.seen c.args.shelf.now) (g.O.Sink.seen c.args.out.now) c.requires.stands rows 4294967295 c.requires.fresh c.args.stimulus.now.few c.in_ok-rows.ensures.rows c.in_ok-rows.ensures.width
-    (g.S.Shelf.seen c.next_batch.new.shelf) (c.in_ok-rows.ensures.kept (λ wrong. let is = wrong in cc)) (g.O.Sink.seen c.put_text.new.out) c.in_err-put_text.field-0.0 (c.in_err-put_text.ensures (text rows) made))
+    (not_written c.args.again.now c.next_batch.new.self read.shelf text (g.O.Sink.seen c.args.out.now) rows 4294967295 c.args.again.now.stimulus.now.few (read.kept (λ wrong. let is = wrong in cc)) read.rows read.width read.count read.gave (g.O.Sink.seen c.put_text.new.out) c.in_err-put_text.field-0.0 (c.in_err-put_text.ensures (text rows) made))
 
-pub returns : goal.returns
-returns g c =
-    let at = goal.at.returns g c in
+pub returns-clause-streams : goal.returns-clause-streams
+returns-clause-streams g c =
+    let at = goal.at.returns-clause-streams g c in
     let names = c.args.names.now in
     let flat = c.args.ordered.now.flat in
     let rows = c.in_ok-rows.rows in
+    let read = c.in_ok-rows.ensures in
     let text = flat_grading names c.args.unknown flat in
     let made = subst (λ (start : List Bool). IfOk c.grading_text-text.result (λ its. its.items ≡ grading_text names flat start rows)) (starts g at.In_ok-start) c.grading_text-text.ensures in
-    whole_written c.args.stimulus.now text (g.S.Shelf.seen c.args.shelf.now) (g.O.Sink.seen c.args.out.now) c.requires.stands rows 4294967295 c.requires.fresh c.args.stimulus.now.few c.in_ok-rows.ensures.rows c.in_ok-rows.ensures.width
-    (g.S.Shelf.seen c.next_batch.new.shelf) (c.in_ok-rows.ensures.kept (λ wrong. let is = wrong in cc)) (g.O.Sink.seen c.put_text.new.out) (c.in_ok-put_text.ensures (text rows) made)
+    whole_written c.args.again.now c.next_batch.new.self read.shelf text (g.O.Sink.seen c.args.out.now) rows 4294967295 c.args.again.now.stimulus.now.few (read.kept (λ wrong. let is = wrong in cc)) read.rows read.width read.count read.gave (g.O.Sink.seen c.put_text.new.out) (c.in_ok-put_text.ensures (text rows) made)

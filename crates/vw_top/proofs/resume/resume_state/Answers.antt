@@ -1,27 +1,20 @@
-use Rattle.std.proofs.Common.{◌≡◌, ◌+◌, ◌≤◌, ◌<◌, ℕ, List, Bool, length, Err, refl, sym, ◌∙◌, ap, subst, arith}
+use Rattle.std.proofs.Common.{◌≡◌, ◌+◌, ◌≤◌, ◌<◌, ℕ, List, Bool, length, Err, refl, sym, ◌∙◌, ap, subst}
 use Rattle.std.proofs.lemmas.Result.{err_from_is_err_and}
 use Rattle.vw_course.specs.declared.unfinished.Unfinished.{Unfinished}
 use Rattle.vw_course.specs.Goes.{GoesOver, MovedFrom}
-use Rattle.vw_batches.specs.Traffic.{HaveCarried}
 use Rattle.vw_plan.specs.PlannedBoard.{planned_board}
-use Rattle.vw_resume.specs.Resumed.{HaveResumed, resumed_trace, without_state}
+use Rattle.vw_resume.specs.Resumed.{resumed_trace, without_state}
 use Rattle.vw_resume.specs.declared.fault.StateFault.TheVariants.{TooManyClocks}
 use Rattle.vw_rows.specs.declared.limits.TheConstants.{MOST_CLOCKS}
-use Rattle.vw_trace.proofs.StreamedTexts.{other_done}
 use Rattle.vw_courses.specs.declared.vocabulary.File.{File}
 use Rattle.vw_courses.specs.declared.vocabulary.Reason.{Reason}
 use Rattle.vw_courses.specs.declared.vocabulary.Reason.TheVariants as reasons
 use Rattle.vw_courses.specs.Messages.{vocabulary}
 use Rattle.vw_courses.specs.Kinds.{clocks_fit}
-use Rattle.vw_courses.specs.Commands.{Scripts, RowCheck, check_by, checked_rows_course, scripts_from, state_course}
-use Rattle.vw_top.proofs.StreamedTraces.{goes_unchecked, goes_failing, goes_streaming, stands_held, over_links}
-use Rattle.vw_top.proofs.LinkTraffic.{parts_from, goes_with}
+use Rattle.vw_courses.specs.Commands.{Scripts, RowCheck, check_by, scripts_from, state_course}
+use Rattle.vw_top.proofs.StreamedTraces.{goes_unchecked, goes_failing, goes_streaming, over_links}
+use Rattle.vw_top.proofs.LinkTraffic.{parts_from}
 use Rattle.vw_top.proofs.resume.resume_state.Goals as goal
-
-pub run_from-ran-requires-clause-stands : goal.run_from-ran-requires-clause-stands
-run_from-ran-requires-clause-stands g c = λ κs alive.
-    let judged = c.in_ok-rows.ensures.judges in
-    stands_held (g.S.Shelf.seen c.args.outside.now.shelf.now) (g.S.Shelf.seen c.check_rows.new.shelf) c.args.stimulus.now judged.1 c.in_ok-rows.rows judged.0 c.in_ok-rows.ensures.starts.its_name judged.2 judged.3
 
 pub returns-in_err-rows-clause-goes : goal.returns-in_err-rows-clause-goes
 returns-in_err-rows-clause-goes g c =
@@ -30,9 +23,9 @@ returns-in_err-rows-clause-goes g c =
     let planned = planned_board checked.ordered checked.board checked.plan in
     let flat = planned.ordered.flat in
     let state = c.args.state in
-    let links = g.F.Fabric.carried c.args.hands.now.fabric.now in
+    let links = g.F.Fabric.carried c.args.floor.now.fabric.now in
     rw (p.1, p.2)
-    (goes_unchecked g.S.Shelf.seen g.O.Sink.seen (MovedFrom links links) c.args.stimulus.now flat.inputs (check_by (clocks_fit state.clock)) (resumed_trace flat state.clock state.latches) (scripts_from c.args.workers planned state.clock state.latches)
+    (goes_unchecked g.S.Shelf.seen g.O.Sink.seen (MovedFrom links links) c.args.stimulus.now flat.inputs (check_by (clocks_fit state.clock)) (resumed_trace flat state.clock state.latches) (scripts_from c.args.floor.now.workers planned state.clock state.latches)
     c.args.outside.now _ (record { shelf = refl; out = refl }) refl (λ before after moved. moved.1 ∙ sym moved.0) c.in_err-rows.field-0.0 c.in_err-rows.ensures.judges)
 
 -- there are too many clocks
@@ -43,13 +36,13 @@ returns-in_err-clocks_fit-clause-goes g c =
     let planned = planned_board checked.ordered checked.board checked.plan in
     let flat = planned.ordered.flat in
     let state = c.args.state in
-    let links = g.F.Fabric.carried c.args.hands.now.fabric.now in
+    let links = g.F.Fabric.carried c.args.floor.now.fabric.now in
     let mid = record c.args.outside.now { shelf = record c.args.outside.now.shelf { now = c.check_rows.new.shelf } } in
     let e = c.in_err-clocks_fit.ensures in
     let reason : ℕ → Reason = λ clocks. reasons.State (TooManyClocks (state.clock + clocks)) in
     rw (p.1, p.2)
-    (subst (λ (unfinished : Unfinished File Reason). GoesOver g.S.Shelf.seen g.O.Sink.seen vocabulary (MovedFrom links links) (state_course c.args.stimulus.now c.args.workers planned state) c.args.outside.now mid (Err unfinished)) (sym e.0)
-    (goes_failing g.S.Shelf.seen g.O.Sink.seen (MovedFrom links links) c.args.stimulus.now flat.inputs (check_by (clocks_fit state.clock)) (resumed_trace flat state.clock state.latches) (scripts_from c.args.workers planned state.clock state.latches)
+    (subst (λ (unfinished : Unfinished File Reason). GoesOver g.S.Shelf.seen g.O.Sink.seen vocabulary (MovedFrom links links) (state_course c.args.stimulus.now c.args.floor.now.workers planned state) c.args.outside.now mid (Err unfinished)) (sym e.0)
+    (goes_failing g.S.Shelf.seen g.O.Sink.seen (MovedFrom links links) c.args.stimulus.now flat.inputs (check_by (clocks_fit state.clock)) (resumed_trace flat state.clock state.latches) (scripts_from c.args.floor.now.workers planned state.clock state.latches)
     c.args.outside.now mid (record { shelf = refl; out = refl }) refl (λ before after moved. moved.1 ∙ sym moved.0) c.in_ok-rows.rows (reason c.clocks.result) c.in_ok-rows.ensures.judges c.in_ok-rows.ensures.starts
     (λ all counted.
     let same : c.clocks.result ≡ length all = c.clocks.ensures ∙ sym counted in
@@ -61,21 +54,17 @@ returns-clause-goes g c =
     let planned = planned_board checked.ordered checked.board checked.plan in
     let flat = planned.ordered.flat in
     let state = c.args.state in
-    let workers = c.max-workers.result in
+    let workers = c.args.floor.now.workers in
     let check : RowCheck = check_by (clocks_fit state.clock) in
     let text : List (List Bool) → List ℕ = resumed_trace flat state.clock state.latches in
     let scripts : ℕ → Scripts = λ count. scripts_from count planned state.clock state.latches in
     let mid = record c.args.outside.now { shelf = record c.args.outside.now.shelf { now = c.check_rows.new.shelf } } in
-    let first = g.F.Fabric.carried c.args.hands.now.fabric.now in
-    let last = g.F.Fabric.carried c.run_from-ran.new.fabric in
+    let first = g.F.Fabric.carried c.args.floor.now.fabric.now in
+    let last = g.F.Fabric.carried c.run_from-ran.new.floor.fabric.now in
     let Moved = MovedFrom first last in
     let fit = c.in_ok-clocks_fit.ensures in
     rw c.state_answer.ensures
-    (goes_with g.S.Shelf.seen g.O.Sink.seen Moved (λ its. checked_rows_course c.args.stimulus.now flat.inputs check text its) planned state.clock state.latches workers c.args.workers
-    (λ several. omega (arith, c.min.ensures, c.max-workers.ensures, several)) (λ several. omega (arith, c.min.ensures, c.max-workers.ensures, several))
     (goes_streaming g.S.Shelf.seen g.O.Sink.seen Moved c.args.stimulus.now flat.inputs check text (scripts workers) c.args.outside.now mid (record { shelf = refl; out = refl }) refl
-    (parts_from planned state.clock state.latches workers) _ c.in_ok-rows.rows (without_state c.run_from-ran.result) (record { shelf = refl; out = refl }) c.in_ok-rows.ensures.judges c.in_ok-rows.ensures.starts
+    _ _ (parts_from planned state.clock state.latches workers) _ (without_state c.run_from-ran.result) (record { shelf = refl; out = refl }) c.in_ok-rows.ensures.judges c.in_ok-rows.ensures.starts
     (λ all counted. subst (λ (clocks : ℕ). state.clock + clocks ≤ MOST_CLOCKS) (c.clocks.ensures ∙ sym counted) fit)
-    (λ links links_after moved. over_links (scripts workers) links links_after moved
-    (other_done c.in_ok-rows.rows.name c.in_ok-rows.rows.width text (HaveResumed workers planned state.clock state.latches first last c.run_from-ran.result) (HaveCarried workers planned state.clock state.latches first last) (λ rows is. is.0)
-    (g.S.Shelf.seen c.check_rows.new.shelf) (g.O.Sink.seen c.args.outside.now.out.now) (g.S.Shelf.seen c.run_from-ran.new.shelf) (g.O.Sink.seen c.run_from-ran.new.out) (without_state c.run_from-ran.result) c.run_from-ran.ensures.streams))))
+    (λ links links_after moved some done. over_links (scripts workers) links links_after moved some done.0) refl refl c.run_from-ran.ensures.streams)

@@ -1,12 +1,12 @@
 use Rattle.std.proofs.Common.{length, arith, refl}
 use Rattle.std.proofs.lemmas.Result.{err_from_is_err_and}
-use Rattle.vw_top.specs.Stages.{by_of}
+use Rattle.vw_files.specs.Ready.{by_of}
 use Rattle.vw_course.specs.Goes.{Unmoved}
 use Rattle.vw_course.proofs.GoesLaws.{unmoved_still}
 use Rattle.vw_courses.specs.Messages.{vocabulary}
 use Rattle.vw_courses.specs.Commands.{board_course, netlist_trace}
 use Rattle.vw_courses.proofs.FlatTraces.{probes_fit}
-use Rattle.vw_top.proofs.ReadyLaws.{goes_unready, goes_ready}
+use Rattle.vw_files.proofs.ReadyLaws.{goes_unready, goes_ready}
 use Rattle.vw_top.proofs.run.run_by_one.Goals as goal
 
 pub returns-in_err-checked : goal.returns-in_err-checked

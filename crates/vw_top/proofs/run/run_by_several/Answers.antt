@@ -1,18 +1,18 @@
 use Rattle.std.proofs.Common.{length, arith, refl, sym, ◌∙◌}
 use Rattle.std.proofs.lemmas.Result.{err_from_is_err_and}
-use Rattle.vw_top.specs.Stages.{by_of}
+use Rattle.vw_files.specs.Ready.{by_of}
 use Rattle.vw_course.specs.Goes.{MovedFrom}
 use Rattle.vw_courses.specs.Commands.{board_course, netlist_trace}
 use Rattle.vw_courses.proofs.FlatTraces.{probes_fit}
-use Rattle.vw_top.proofs.ReadyLaws.{goes_unready, goes_ready}
+use Rattle.vw_files.proofs.ReadyLaws.{goes_unready, goes_ready}
 use Rattle.vw_top.proofs.run.run_by_several.Goals as goal
 
 pub returns-in_err-checked-clause-goes : goal.returns-in_err-checked-clause-goes
 returns-in_err-checked-clause-goes g c =
     let p = err_from_is_err_and c.from_residual.result c.from_residual.ensures.1 in
-    let links = g.F.Fabric.carried c.args.hands.now.fabric.now in
+    let links = g.F.Fabric.carried c.args.floor.now.fabric.now in
     rw (p.1, p.2)
-    (goes_unready g.S.Shelf.seen g.O.Sink.seen (MovedFrom links links) c.args.files.now.probes.nets.now (board_course c.args.stimulus.now (netlist_trace (length c.args.files.now.probes.nets.now) c.args.unknown) c.args.workers c.args.unknown) c.args.files.now.design.now c.args.files.now.board.now (by_of c.args.files.now.plan) c.args.outside.now _ (record { shelf = refl; out = refl }) refl
+    (goes_unready g.S.Shelf.seen g.O.Sink.seen (MovedFrom links links) c.args.files.now.probes.nets.now (board_course c.args.stimulus.now (netlist_trace (length c.args.files.now.probes.nets.now) c.args.unknown) c.args.floor.now.workers c.args.unknown) c.args.files.now.design.now c.args.files.now.board.now (by_of c.args.files.now.plan) c.args.outside.now _ (record { shelf = refl; out = refl }) refl
     (λ before after moved. moved.1 ∙ sym moved.0) c.in_err-checked.field-0.0 c.in_err-checked.ensures)
 
 -- the probes are among the outputs
@@ -24,6 +24,6 @@ run_checked_together-requires-clause-probes g c =
 pub returns-clause-goes : goal.returns-clause-goes
 returns-clause-goes g c =
     let mid = record c.args.outside.now { shelf = record c.args.outside.now.shelf { now = c.ready_board.new.shelf } } in
-    let Moved = MovedFrom (g.F.Fabric.carried c.args.hands.now.fabric.now) (g.F.Fabric.carried c.run_checked_together.new.hands.fabric.now) in
-    goes_ready g.S.Shelf.seen g.O.Sink.seen Moved c.args.files.now.probes.nets.now (board_course c.args.stimulus.now (netlist_trace (length c.args.files.now.probes.nets.now) c.args.unknown) c.args.workers c.args.unknown) c.args.files.now.design.now c.args.files.now.board.now (by_of c.args.files.now.plan) c.args.outside.now mid (record { shelf = refl; out = refl }) refl
+    let Moved = MovedFrom (g.F.Fabric.carried c.args.floor.now.fabric.now) (g.F.Fabric.carried c.run_checked_together.new.floor.fabric.now) in
+    goes_ready g.S.Shelf.seen g.O.Sink.seen Moved c.args.files.now.probes.nets.now (board_course c.args.stimulus.now (netlist_trace (length c.args.files.now.probes.nets.now) c.args.unknown) c.args.floor.now.workers c.args.unknown) c.args.files.now.design.now c.args.files.now.board.now (by_of c.args.files.now.plan) c.args.outside.now mid (record { shelf = refl; out = refl }) refl
     c.in_ok-checked.checked _ c.run_checked_together.result c.in_ok-checked.ensures c.run_checked_together.ensures.goes

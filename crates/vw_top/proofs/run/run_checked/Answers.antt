@@ -2,18 +2,13 @@ use Rattle.std.proofs.Common.{refl}
 use Rattle.std.proofs.lemmas.Result.{err_from_is_err_and}
 use Rattle.vw_course.specs.Goes.{Unmoved}
 use Rattle.vw_course.proofs.GoesLaws.{unmoved_still}
-use Rattle.vw_run.specs.Runs.{without_count}
+use Rattle.vw_batches.specs.Runs.{without_count}
 use Rattle.vw_trace.specs.FlatTrace.{flat_trace}
 use Rattle.vw_courses.specs.Messages.{vocabulary}
 use Rattle.vw_courses.specs.Commands.{netlist_trace, no_links, no_check}
-use Rattle.vw_top.proofs.StreamedTraces.{goes_unchecked, goes_streaming, stands_held, no_parts, without_links}
+use Rattle.vw_top.proofs.StreamedTraces.{goes_unchecked, goes_streaming, no_parts, without_links}
 use Rattle.vw_top.proofs.LinkTraffic.{goes_alone}
 use Rattle.vw_top.proofs.run.run_checked.Goals as goal
-
-pub run_alone-ran-requires-clause-stands : goal.run_alone-ran-requires-clause-stands
-run_alone-ran-requires-clause-stands g c =
-    let judged = c.in_ok-rows.ensures.judges in
-    stands_held (g.S.Shelf.seen c.args.outside.now.shelf.now) (g.S.Shelf.seen c.check_rows.new.shelf) c.args.stimulus.now judged.1 c.in_ok-rows.rows judged.0 c.in_ok-rows.ensures.starts.its_name judged.2 judged.3
 
 pub returns-in_err-rows : goal.returns-in_err-rows
 returns-in_err-rows g c = λ workers few.
@@ -33,5 +28,4 @@ returns g c = λ workers few.
     rw c.clocks_answer.ensures
     (goes_alone g.S.Shelf.seen g.O.Sink.seen Unmoved c.args.stimulus.now c.args.unknown ordered checked.board checked.plan (netlist_trace c.args.probes c.args.unknown) workers few
     (goes_streaming g.S.Shelf.seen g.O.Sink.seen Unmoved c.args.stimulus.now ordered.flat.inputs no_check (flat_trace c.args.probes c.args.unknown ordered.flat) no_links c.args.outside.now mid (record { shelf = refl; out = refl }) refl
-    no_parts _ c.in_ok-rows.rows (without_count c.run_alone-ran.result) (record { shelf = refl; out = refl }) c.in_ok-rows.ensures.judges c.in_ok-rows.ensures.starts (λ all counted. tt)
-    (without_links c.run_alone-ran.ensures.streams)))
+    _ _ no_parts _ (without_count c.run_alone-ran.result) (record { shelf = refl; out = refl }) c.in_ok-rows.ensures.judges c.in_ok-rows.ensures.starts (λ all counted. tt) (without_links (λ these. Unit {0})) refl refl c.run_alone-ran.ensures.streams))

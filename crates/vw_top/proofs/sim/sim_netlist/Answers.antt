@@ -5,13 +5,8 @@ use Rattle.vw_course.proofs.GoesLaws.{unmoved_still}
 use Rattle.vw_courses.specs.Messages.{vocabulary}
 use Rattle.vw_courses.specs.Commands.{no_links, no_check}
 use Rattle.vw_trace.specs.FlatTrace.{flat_trace}
-use Rattle.vw_top.proofs.StreamedTraces.{goes_unchecked, goes_streaming, stands_held, no_parts, without_links}
+use Rattle.vw_top.proofs.StreamedTraces.{goes_unchecked, goes_streaming, no_parts, without_links}
 use Rattle.vw_top.proofs.sim.sim_netlist.Goals as goal
-
-pub write_trace-written-requires-clause-stands : goal.write_trace-written-requires-clause-stands
-write_trace-written-requires-clause-stands g c =
-    let judged = c.in_ok-rows.ensures.judges in
-    stands_held (g.S.Shelf.seen c.args.outside.now.shelf.now) (g.S.Shelf.seen c.check_rows.new.shelf) c.args.stimulus.now judged.1 c.in_ok-rows.rows judged.0 c.in_ok-rows.ensures.starts.its_name judged.2 judged.3
 
 pub returns-in_err-rows : goal.returns-in_err-rows
 returns-in_err-rows g c =
@@ -25,4 +20,4 @@ returns g c =
     let mid = record c.args.outside.now { shelf = record c.args.outside.now.shelf { now = c.check_rows.new.shelf } } in
     rw c.run_answer.ensures
     (goes_streaming g.S.Shelf.seen g.O.Sink.seen Unmoved c.args.stimulus.now c.args.ordered.flat.inputs no_check (flat_trace c.args.probes c.args.unknown c.args.ordered.flat) no_links c.args.outside.now mid (record { shelf = refl; out = refl }) refl
-    no_parts _ c.in_ok-rows.rows c.write_trace-written.result (record { shelf = refl; out = refl }) c.in_ok-rows.ensures.judges c.in_ok-rows.ensures.starts (λ all counted. tt) (without_links c.write_trace-written.ensures.streams))
+    _ _ no_parts _ c.write_trace-written.result (record { shelf = refl; out = refl }) c.in_ok-rows.ensures.judges c.in_ok-rows.ensures.starts (λ all counted. tt) (without_links (λ these. Unit {0})) refl refl c.write_trace-written.ensures.streams)

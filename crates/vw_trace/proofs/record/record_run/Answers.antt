@@ -1,67 +1,88 @@
-use Rattle.std.proofs.Common.{Ok, Err}
+use Rattle.std.proofs.Common.{◌≡◌, ◌-◌, ◌∙◌, ℕ, length, Err, sym, ap, subst, arith}
+use Rattle.std.specs.List.{All}
+use Rattle.std.proofs.lemmas.Bool.{ltb-false, ltb-true}
 use Rattle.std.proofs.lemmas.Result.{err_from_is_err_and}
-use Rattle.vw_net.specs.History.{flat_history}
-use Rattle.vw_trace.specs.RunFaults.{run_fault_of}
+use Rattle.vw_rows.specs.declared.fault.StimFault.{StimFault}
 use Rattle.vw_trace.specs.Recorded.{no_more_clocks}
-use Rattle.vw_trace.specs.Streamed.{EndsAt}
-use Rattle.vw_trace.proofs.StreamedTexts.{no_clocks, no_end, all_recorded, other_done}
+use Rattle.vw_trace.proofs.RecordedBatches.{fits_batch}
+use Rattle.vw_trace.proofs.Streaming.{HasNext, all_recorded, begins, columns_then, few_then, further, its_latches, no_end, not_worked, unread, unwritten_lines}
+use Rattle.vw_trace.proofs.record.record_run.Given.{Over}
 use Rattle.vw_trace.proofs.record.record_run.Goals as goal
+use Rattle.vw_trace.proofs.record.record_run.Goals.{In_ok-next, In_ok-batch, After-loop-rows}
+
+pub loop-rows-init : goal.loop-rows-init
+loop-rows-init g c = begins (λ these. Unit {0}) c.args.rows.now (g.E.Engine.seen c.args.engine.now) (g.R.Recorder.seen c.args.recorder.now) (g.O.Sink.seen c.args.out.now) c.requires.its tt
+
+pub returns-in_err-next : goal.returns-in_err-next
+returns-in_err-next g c =
+    let p = err_from_is_err_and c.from_residual.result c.from_residual.ensures.1 in
+    let e = c.in_err-next.ensures in
+    rw (p.1, p.2)
+    (unread c.loop-rows.invariant c.in_err-next.field-0.0 c.next_batch.new.self (g.E.Engine.seen c.loop-rows.engine) e.shelf
+    (λ same. e.fault (ap (λ (fault : StimFault). Err fault) same)) (λ differs. e.kept (λ same. differs (let is = same in cc))) e.sure)
+
+-- the next rows
+next_read : (g : Over) (c : In_ok-next g) → HasNext c.loop-rows.rows c.next_batch.new.self c.in_ok-next.next
+next_read g c = record {
+  same = c.in_ok-next.ensures.shelf;
+  kept = c.in_ok-next.ensures.kept (λ wrong. let is = wrong in cc);
+  wide = c.in_ok-next.ensures.width;
+  are = c.in_ok-next.ensures.rows;
+  gave = c.in_ok-next.ensures.gave;
+}
+
+pub work_out-requires-clause-columns : goal.work_out-requires-clause-columns
+work_out-requires-clause-columns g c =
+    subst (λ (n : ℕ). All (λ row. length row ≡ n) c.in_ok-next.next) (columns_then c.loop-rows.invariant c.requires.feeds) c.in_ok-next.ensures.width
+
+pub work_out-requires-clause-few : goal.work_out-requires-clause-few
+work_out-requires-clause-few g c = few_then c.loop-rows.invariant c.requires.feeds (length c.in_ok-next.next) c.in_ok-next.ensures.count
+
+pub returns-in_err-batch : goal.returns-in_err-batch
+returns-in_err-batch g c =
+    let p = err_from_is_err_and c.from_residual-in_err-batch.result c.from_residual-in_err-batch.ensures.1 in
+    let read = next_read g (goal.at.returns-in_err-batch g c).In_ok-next in
+    rw (p.1, p.2) (not_worked c.loop-rows.invariant read (g.E.Engine.seen c.work_out.new.self) (λ these. Unit {0}) tt)
+
+pub write_batch-requires : goal.write_batch-requires
+write_batch-requires g c =
+    fits_batch c.in_ok-batch.ensures.worked c.loop-rows.invariant.its (few_then c.loop-rows.invariant c.requires.feeds (length c.in_ok-next.next) c.in_ok-next.ensures.count)
+
+pub returns-in_err-write_batch : goal.returns-in_err-write_batch
+returns-in_err-write_batch g c =
+    let p = err_from_is_err_and c.from_residual-in_err-write_batch.result c.from_residual-in_err-write_batch.ensures.1 in
+    let read = next_read g (goal.at.returns-in_err-write_batch g c).In_ok-next in
+    rw (p.1, p.2)
+    (unwritten_lines c.loop-rows.invariant read (c.histories_join.ensures (g.E.Engine.seen c.args.engine.now).netlist) c.in_ok-batch.ensures.worked c.in_err-write_batch.field-0.0
+    (g.R.Recorder.seen c.write_batch.new.recorder) (g.O.Sink.seen c.write_batch.new.out) (λ these. Unit {0}) c.in_err-write_batch.ensures tt)
+
+pub loop-rows-smaller : goal.loop-rows-smaller
+loop-rows-smaller g c =
+    let gave = c.in_ok-next.ensures.gave in
+    omega (arith, gave.clocks, gave.done, c.in_ok-next.ensures.count, ltb-true c.loop-rows.rows.stimulus.now.done c.loop-rows.rows.stimulus.now.clocks (sym c.has_more.ensures ∙ c.loop-rows-test.true))
+
+pub loop-rows-preserved : goal.loop-rows-preserved
+loop-rows-preserved g c =
+    let read = next_read g (goal.at.loop-rows-preserved g c).In_ok-next in
+    further c.loop-rows.invariant read (c.histories_join.ensures (g.E.Engine.seen c.args.engine.now).netlist) c.in_ok-batch.ensures.worked
+    (g.R.Recorder.seen c.write_batch.new.recorder) (g.O.Sink.seen c.write_batch.new.out) (λ these. Unit {0}) c.in_ok-write_batch.ensures tt
+
+-- no row is left
+none_left : (g : Over) (c : After-loop-rows g) → c.loop-rows.rows.stimulus.now.clocks - c.loop-rows.rows.stimulus.now.done ≡ 0
+none_left g c = omega (arith, ltb-false c.loop-rows.rows.stimulus.now.done c.loop-rows.rows.stimulus.now.clocks (sym c.has_more.ensures ∙ c.loop-rows-test.false))
 
 pub end-rest-requires : goal.end-rest-requires
-end-rest-requires g c = c.in_ok-record_clocks.ensures.ends
+end-rest-requires g c = its_latches c.loop-rows.invariant c.state.result.now c.state.ensures.value c.state.ensures.latches
 
-pub returns-in_err-record_clocks-clause-streams : goal.returns-in_err-record_clocks-clause-streams
-returns-in_err-record_clocks-clause-streams g c =
-    let flat = g.E.Engine.netlist c.args.engine.now in
-    let recorder = c.args.recorder.now in
-    let stimulus = c.args.stimulus.now in
-    let shelf = g.S.Shelf.seen c.args.shelf.now in
-    let out = g.O.Sink.seen c.args.out.now in
-    let shelf_after = g.S.Shelf.seen c.record_clocks.new.shelf in
-    let after = g.O.Sink.seen c.record_clocks.new.out in
-    let last = c.record_clocks.new.state in
-    let why = c.in_err-record_clocks.field-0.0 in
-    let p = err_from_is_err_and c.from_residual.result c.from_residual.ensures.1 in
-    rw (p.1, p.2)
-    (other_done stimulus.name stimulus.width (λ rows. g.R.Recorder.left recorder (flat_history flat c.args.state.now rows))
-    (λ rows. Unit {0} × EndsAt flat c.args.state.now stimulus.clocks last (Err why) rows) (EndsAt flat c.args.state.now stimulus.clocks last (Err why)) (λ rows both. both.1)
-    shelf out shelf_after after (Err why)
-    (no_clocks stimulus flat (record { clock = g.R.Recorder.clocks recorder; state = c.args.state.now; left = g.R.Recorder.left recorder }) (λ rows. Unit {0}) shelf out
-    why last (g.R.Recorder.left c.record_clocks.new.recorder) shelf_after after c.in_err-record_clocks.ensures.records))
-
-pub returns-in_err-put_text-clause-streams : goal.returns-in_err-put_text-clause-streams
-returns-in_err-put_text-clause-streams g c =
-    let flat = g.E.Engine.netlist c.args.engine.now in
-    let recorder = c.args.recorder.now in
-    let stimulus = c.args.stimulus.now in
-    let shelf = g.S.Shelf.seen c.args.shelf.now in
-    let out = g.O.Sink.seen c.args.out.now in
-    let shelf_after = g.S.Shelf.seen c.record_clocks.new.shelf in
-    let last = c.record_clocks.new.state in
-    let left_after = g.R.Recorder.left c.record_clocks.new.recorder in
-    let why = c.in_err-put_text.field-0.0 in
+pub returns-in_err-put_text : goal.returns-in_err-put_text
+returns-in_err-put_text g c =
     let p = err_from_is_err_and c.from_residual-in_err-put_text.result c.from_residual-in_err-put_text.ensures.1 in
+    let last = (g.R.Recorder.seen c.loop-rows.recorder).left (no_more_clocks c.state.result.now) in
     rw (p.1, p.2)
-    (other_done stimulus.name stimulus.width (λ rows. g.R.Recorder.left recorder (flat_history flat c.args.state.now rows))
-    (λ rows. Unit {0} × EndsAt flat c.args.state.now stimulus.clocks last (Err (run_fault_of why)) rows) (EndsAt flat c.args.state.now stimulus.clocks last (Err (run_fault_of why))) (λ rows both. both.1)
-    shelf out shelf_after (g.O.Sink.seen c.put_text.new.out) (Err (run_fault_of why))
-    (no_end stimulus flat (record { clock = g.R.Recorder.clocks recorder; state = c.args.state.now; left = g.R.Recorder.left recorder }) (λ rows. Unit {0}) shelf out
-    last left_after shelf_after (g.O.Sink.seen c.record_clocks.new.out) (g.O.Sink.seen c.put_text.new.out) c.in_ok-record_clocks.ensures.records
-    why (c.in_err-put_text.ensures (left_after (no_more_clocks last)) c.end-rest.ensures)))
+    (no_end c.loop-rows.invariant (none_left g (goal.at.returns-in_err-put_text g c).After-loop-rows) c.state.result.now c.state.ensures.value (g.O.Sink.seen c.put_text.new.out)
+    c.in_err-put_text.field-0.0 (c.in_err-put_text.ensures last c.end-rest.ensures))
 
-pub returns-clause-streams : goal.returns-clause-streams
-returns-clause-streams g c =
-    let flat = g.E.Engine.netlist c.args.engine.now in
-    let recorder = c.args.recorder.now in
-    let stimulus = c.args.stimulus.now in
-    let shelf = g.S.Shelf.seen c.args.shelf.now in
-    let out = g.O.Sink.seen c.args.out.now in
-    let shelf_after = g.S.Shelf.seen c.record_clocks.new.shelf in
-    let last = c.record_clocks.new.state in
-    let left_after = g.R.Recorder.left c.record_clocks.new.recorder in
-    other_done stimulus.name stimulus.width (λ rows. g.R.Recorder.left recorder (flat_history flat c.args.state.now rows))
-    (λ rows. Unit {0} × EndsAt flat c.args.state.now stimulus.clocks last (Ok tt) rows) (EndsAt flat c.args.state.now stimulus.clocks last (Ok tt)) (λ rows both. both.1)
-    shelf out shelf_after (g.O.Sink.seen c.put_text.new.out) (Ok tt)
-    (all_recorded stimulus flat (record { clock = g.R.Recorder.clocks recorder; state = c.args.state.now; left = g.R.Recorder.left recorder }) (λ rows. Unit {0}) shelf out
-    last left_after shelf_after (g.O.Sink.seen c.record_clocks.new.out) (g.O.Sink.seen c.put_text.new.out) c.in_ok-record_clocks.ensures.records
-    (c.in_ok-put_text.ensures (left_after (no_more_clocks last)) c.end-rest.ensures))
+pub returns : goal.returns
+returns g c =
+    let last = (g.R.Recorder.seen c.loop-rows.recorder).left (no_more_clocks c.state.result.now) in
+    all_recorded c.loop-rows.invariant (none_left g (goal.at.returns g c).After-loop-rows) c.state.result.now c.state.ensures.value (g.O.Sink.seen c.put_text.new.out) (c.in_ok-put_text.ensures last c.end-rest.ensures)

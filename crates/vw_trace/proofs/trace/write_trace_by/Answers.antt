@@ -1,36 +1,36 @@
-use Rattle.std.proofs.Common.{◌≡◌, ◌∙◌, List, Bool, length, Err, ap, subst}
+use Rattle.std.proofs.Common.{◌≡◌, ◌-◌, ◌++◌, ◌∙◌, ℕ, List, length, Err, refl, ap, subst}
 use Rattle.std.proofs.lemmas.Result.{err_from_is_err_and}
 use Rattle.vw_net.specs.declared.flat.Flat.{Flat}
-use Rattle.vw_net.specs.Cells.{start_values}
-use Rattle.vw_net.proofs.Counts.{length-start_values}
-use Rattle.vw_trace.specs.FlatTrace.{trace_from, flat_trace}
-use Rattle.vw_trace.specs.declared.fault.RunFault.TheVariants.{NoMemory}
-use Rattle.vw_trace.specs.Streamed.{HasClocks, Streams}
-use Rattle.vw_trace.proofs.StreamedTexts.{nothing_streamed}
-use Rattle.vw_trace.proofs.trace.write_trace_by.Given.{Over}
+use Rattle.vw_net.specs.Cells.{latch_count}
+use Rattle.vw_outside.specs.Writes.{appended, WritesOut}
+use Rattle.vw_rows.specs.Trace.{head_text, trace_lines_from}
+use Rattle.vw_trace.specs.Engines.{history_of}
+use Rattle.vw_trace.specs.FlatTrace.{trace_from}
+use Rattle.vw_trace.proofs.StreamedTexts.{headed, no_head}
 use Rattle.vw_trace.proofs.trace.write_trace_by.Goals as goal
-use Rattle.vw_trace.proofs.trace.write_trace_by.Goals.{In_ok-state}
 
-pub returns-in_err-state-clause-streams : goal.returns-in_err-state-clause-streams
-returns-in_err-state-clause-streams g c =
+abbrev head_of : ℕ → Flat → List ℕ
+head_of probes flat = head_text (length flat.outputs - probes) probes (latch_count flat.cells)
+
+pub returns-in_err-write_head : goal.returns-in_err-write_head
+returns-in_err-write_head g c =
+    let seen = g.E.Engine.seen c.args.engine.now in
     let p = err_from_is_err_and c.from_residual.result c.from_residual.ensures.1 in
-    let flat = g.E.Engine.netlist c.args.engine.now in
-    let start = start_values c.args.unknown flat.cells in
-    rw (p.1, p.2) (nothing_streamed c.args.stimulus.now (flat_trace c.args.probes c.args.unknown flat) (HasClocks c.args.stimulus.now.clocks (Err NoMemory)) (g.S.Shelf.seen c.args.shelf.now) (g.O.Sink.seen c.args.out.now)
-    c.requires.stands tt)
+    let before = g.O.Sink.seen c.args.out.now in
+    let after = g.O.Sink.seen c.write_head.new.out in
+    let why = c.in_err-write_head.field-0.0 in
+    rw (p.1, p.2)
+    (no_head c.args.rows.now (trace_from c.args.probes seen.clock seen.state seen.netlist) (λ these. Unit {0}) tt (head_of c.args.probes seen.netlist) (λ these. trace_lines_from seen.clock (history_of seen these)) (λ these. refl) before after why
+    (subst (λ (flat : Flat). WritesOut (head_of c.args.probes flat) before after (Err why)) c.flat.ensures c.in_err-write_head.ensures))
 
--- the state starts with the start values, one for each latch
-starts : (g : Over) (c : In_ok-state g) → c.in_ok-state.state ≡ start_values c.args.unknown (g.E.Engine.netlist c.args.engine.now).cells
-starts g c = c.in_ok-state.ensures ∙ ap (λ (flat : Flat). start_values c.args.unknown flat.cells) c.flat.ensures
-
-pub write_lines-requires-clause-latches : goal.write_lines-requires-clause-latches
-write_lines-requires-clause-latches g c =
-    let at = goal.at.write_lines-requires-clause-latches g c in
-    ap (λ (bits : List Bool). length bits) (starts g at.In_ok-state) ∙ length-start_values c.args.unknown (g.E.Engine.netlist c.args.engine.now).cells
-
-pub returns-clause-streams : goal.returns-clause-streams
-returns-clause-streams g c =
-    let at = goal.at.returns-clause-streams g c in
-    let stimulus = c.args.stimulus.now in
-    subst (λ (state : List Bool). Streams stimulus.name stimulus.width (trace_from c.args.probes 0 state (g.E.Engine.netlist c.args.engine.now)) (HasClocks stimulus.clocks c.write_lines.result) (g.S.Shelf.seen c.args.shelf.now) (g.O.Sink.seen c.args.out.now)
-    (g.S.Shelf.seen c.write_lines.new.shelf) (g.O.Sink.seen c.write_lines.new.out) c.write_lines.result) (starts g at.In_ok-state) c.write_lines.ensures.streams
+-- the first line was written, and then what the recorder makes
+pub returns : goal.returns
+returns g c =
+    let seen = g.E.Engine.seen c.args.engine.now in
+    let before = g.O.Sink.seen c.args.out.now in
+    let mid = g.O.Sink.seen c.write_head.new.out in
+    let head = head_of c.args.probes seen.netlist in
+    let wrote : mid ≡ appended before head = c.in_ok-write_head.ensures ∙ ap (λ (flat : Flat). appended before (head_of c.args.probes flat)) c.flat.ensures in
+    headed head (trace_from c.args.probes seen.clock seen.state seen.netlist) before wrote
+    (λ these. ap (λ (first : ℕ). head ++ trace_lines_from first (history_of seen these)) (c.make-recorder.ensures.clocks ∙ c.clock.ensures))
+    (λ these done. done.1) c.record_run.ensures

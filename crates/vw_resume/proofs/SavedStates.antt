@@ -1,0 +1,24 @@
+-- States that are saved.
+use Rattle.std.proofs.Common.{◌≡◌, ◌+◌, ◌≤◌, ℕ, Bool, List, length, refl, ap, arith}
+use Rattle.vw_net.specs.declared.flat.Flat.{Flat}
+use Rattle.vw_net.specs.Cells.{latch_count, start_values}
+use Rattle.vw_net.specs.History.{outputs_of, state_after}
+use Rattle.vw_net.proofs.Counts.{latch_count-le, length-outputs_of, length-start_values, length-state_after}
+use Rattle.vw_resume.specs.Saved.{saved_text}
+use Rattle.vw_resume.specs.States.{Spells, state_text}
+
+-- what is left of a run is the text that is saved
+pub saved_is : (unknown : Bool) (flat : Flat) (rows : List (List Bool)) → let start = start_values unknown flat.cells in
+    state_text (0 + length (outputs_of flat start rows)) (state_after flat start rows) ≡ saved_text unknown flat rows
+saved_is unknown flat rows =
+    let start = start_values unknown flat.cells in
+    let count : 0 + length (outputs_of flat start rows) ≡ length rows = omega (arith, length-outputs_of flat start rows) in
+    ap (λ (n : ℕ). state_text n (state_after flat start rows)) count
+
+-- and it spells the state after the rows
+pub saved_spells : (unknown : Bool) (flat : Flat) (rows : List (List Bool)) → length rows ≤ 4294967295
+    → Spells (saved_text unknown flat rows) (record { clock = length rows; latches = state_after flat (start_values unknown flat.cells) rows })
+saved_spells unknown flat rows few =
+    let start = start_values unknown flat.cells in
+    let long : length (state_after flat start rows) ≡ latch_count flat.cells = length-state_after flat start rows (length-start_values unknown flat.cells) in
+    record { few_clocks = few; few_latches = omega (arith, long, latch_count-le flat.cells, flat.few_cells); spelled = refl }
