@@ -167,15 +167,11 @@ module _ (job : Job) (keeps : Bool) (groups : List SeenGroup) (crew : IsCrew job
       let put = put_there link.from from number link is refl in
       let take = take_there link.to to number link is refl in
       record {
-        putter = (own_there link.from from).0;
-        putter_is = (own_there link.from from).1;
-        put_job = own_job link.from from;
+        putter = ((own_there link.from from).0, (own_there link.from from).1, own_job link.from from);
         put_end = put.0;
         put_is = put.1.0;
         sent = put.1.1;
-        taker = (own_there link.to to).0;
-        taker_is = (own_there link.to to).1;
-        take_job = own_job link.to to;
+        taker = ((own_there link.to to).0, (own_there link.to to).1, own_job link.to to);
         take_end = take.0;
         take_is = take.1.0;
         taken = take.1.1;

@@ -1,14 +1,14 @@
 -- The ends of a node after a call of one of them.
-use Rattle.std.proofs.Common.{◌≡◌, ◌<◌, ◌+◌, ℕ, Bool, true, false, List, length, get_or, set, slice_get, ap, inl, inr, refl, subst, sym, ◌∙◌, ⊎_elim, ◌≤◌, Option, Some, None, true≢false}
-use Rattle.std.specs.Prelude.{unwrap_or}
-use Rattle.std.proofs.lemmas.List.{length-set}
+use Rattle.std.proofs.Common.{◌≡◌, ◌<◌, ◌+◌, ℕ, Bool, true, false, List, length, get_or, set, slice_get, ap, ap₂, inl, inr, refl, subst, sym, ◌∙◌, ⊎_elim, ◌≤◌, Option, Some, None, true≢false, arith}
+use Rattle.std.specs.Prelude.{option_map, unwrap_or}
+use Rattle.std.proofs.lemmas.List.{get_or-map, length-map, length-set, map-set}
 use Rattle.std.proofs.lemmas.Option.{none-some}
 use Rattle.vw_prog.specs.declared.job.Job.{Job}
 use Rattle.vw_prog.specs.declared.word.Word.{Word}
 use Rattle.vw_prog.specs.Ends.{Puts, Takes, counted_at, one_more, refused}
 use Rattle.vw_prog.specs.Fabric.{PutsOne, SeenPutEnd, SeenTakeEnd, TakesOne}
 use Rattle.vw_prog.specs.Scripts.{script}
-use Rattle.vw_crew.specs.Ends.{AreOwn, SeenOwn, empty_of, ends_of, full_of, keeps_of, put_at, put_room, sent_of, take_at, taken_of}
+use Rattle.vw_crew.specs.Ends.{AreOwn, Has, IsPutOf, IsTakeOf, MayHave, SeenOwn, empty_of, ends_of, full_of, keeps_of, own_of, put_at, put_room, sent_of, take_at, taken_of}
 use Rattle.vw_crew.proofs.Places.{place_within, set_changes, set_fine, set_stays}
 
 module _ (own : SeenOwn) (are : AreOwn own) (link : ℕ) where
@@ -20,7 +20,7 @@ module _ (own : SeenOwn) (are : AreOwn own) (link : ℕ) where
 
   -- ---- an end comes or goes
 
-  pub with_put : (within : link < length own.puts) (new : Option SeenPutEnd) → ((end : SeenPutEnd) → new ≡ Some end → (end.link ≡ link) × (end.words ≡ words link)) → AreOwn (record own { puts = set own.puts link new })
+  pub with_put : link < length own.puts → (new : Option SeenPutEnd) → IsPutOf own.job link new → AreOwn (record own { puts = set own.puts link new })
   with_put within new fine = record {
     puts_long = length-set own.puts link new ∙ are.puts_long;
     takes_long = are.takes_long;
@@ -28,7 +28,7 @@ module _ (own : SeenOwn) (are : AreOwn own) (link : ℕ) where
     takes = are.takes;
   }
 
-  pub with_take : (within : link < length own.takes) (new : Option SeenTakeEnd) → ((end : SeenTakeEnd) → new ≡ Some end → (end.link ≡ link) × (end.words ≡ words link)) → AreOwn (record own { takes = set own.takes link new })
+  pub with_take : link < length own.takes → (new : Option SeenTakeEnd) → IsTakeOf own.job link new → AreOwn (record own { takes = set own.takes link new })
   with_take within new fine = record {
     puts_long = are.puts_long;
     takes_long = length-set own.takes link new ∙ are.takes_long;
@@ -135,6 +135,63 @@ module _ (own : SeenOwn) (are : AreOwn own) (link : ℕ) where
 
       all : ends_of (then_takes after) ≡ record (ends_of own) { empty = refused link (ends_of own).empty }
       all = λ i. record (ends_of own) { taken = taken i; empty = empty i; keeps = keeps i }
+
+-- the ends as code has them
+module _ {T U : Type 0} (put : T → SeenPutEnd) (take : U → SeenTakeEnd) (job : Job) (node : ℕ) (puts : List (Option T)) (takes : List (Option U)) (link : ℕ) (own : SeenOwn) (view_is : own_of put take job node puts takes ≡ own) (are : AreOwn (own_of put take job node puts takes)) (inside : link < length own.job.checked.board.links) where
+  abbrev before : SeenOwn
+  before = own_of put take job node puts takes
+
+  links_are : length own.job.checked.board.links ≡ length before.job.checked.board.links
+  links_are = ap (λ (one : SeenOwn). length one.job.checked.board.links) (sym view_is)
+
+  -- other ends of a link are written
+  module _ (new given : Option T) (new_is : new ≡ given) (other passed : Option U) (other_is : other ≡ passed) where
+    abbrev after : SeenOwn
+    after = own_of put take job node (set puts link new) (set takes link other)
+
+    pub change_done : MayHave own link (option_map put given) (option_map take passed) → AreOwn after × (after ≡ record own { puts = set own.puts link (option_map put given); takes = set own.takes link (option_map take passed) })
+    change_done may =
+        let put_fits = subst (λ (one : SeenOwn). IsPutOf one.job link (option_map put new)) (sym view_is) (subst (λ (place : Option T). IsPutOf own.job link (option_map put place)) (sym new_is) may.put_fits) in
+        let take_fits = subst (λ (one : SeenOwn). IsTakeOf one.job link (option_map take other)) (sym view_is) (subst (λ (place : Option U). IsTakeOf own.job link (option_map take place)) (sym other_is) may.take_fits) in
+        let with_new = with_put before are link (omega (arith, inside, links_are, are.puts_long)) (option_map put new) put_fits in
+        let with_both = with_take (record before { puts = set before.puts link (option_map put new) }) with_new link (omega (arith, inside, links_are, are.takes_long)) (option_map take other) take_fits in
+        let written : after ≡ record before { puts = set before.puts link (option_map put new); takes = set before.takes link (option_map take other) } =
+        ap₂ (λ (some : List (Option SeenPutEnd)) (others : List (Option SeenTakeEnd)). record before { puts = some; takes = others }) (map-set (option_map put) puts link new) (map-set (option_map take) takes link other) in (
+          subst AreOwn (sym written) with_both,
+          written
+              ∙ ap (λ (one : SeenOwn). record one { puts = set one.puts link (option_map put new); takes = set one.takes link (option_map take other) }) view_is
+              ∙ ap₂ (λ (place : Option T) (far : Option U). record own { puts = set own.puts link (option_map put place); takes = set own.takes link (option_map take far) }) new_is other_is,
+        )
+
+  -- one of them is found, and called
+  module _ (any found : Option T) (found_is : found ≡ get_or puts link any) where
+    put_found : put_at before link ≡ option_map put found
+    put_found = get_or-map (option_map put) puts link any None (omega (arith, inside, links_are, are.puts_long, length-map puts (option_map put))) ∙ ap (option_map put) (sym found_is)
+
+    pub put_called : (end new : T) (answer : Bool) → found ≡ Some end → PutsOne (put end) (put new) answer
+        → AreOwn (own_of put take job node (set puts link (Some new)) takes) × Puts link (ends_of own) (ends_of (own_of put take job node (set puts link (Some new)) takes)) answer
+    put_called end new answer is puts_one =
+        subst (λ (list : List (Option SeenPutEnd)). AreOwn (record before { puts = list }) × Puts link (ends_of own) (ends_of (record before { puts = list })) answer) (sym (map-set (option_map put) puts link (Some new)))
+        (subst (λ (one : SeenOwn). AreOwn (record before { puts = set before.puts link (Some (put new)) }) × Puts link (ends_of one) (ends_of (record before { puts = set before.puts link (Some (put new)) })) answer) view_is (put_done before are link (put end) (put_found ∙ ap (option_map put) is) answer (put new) puts_one))
+
+  module _ (any found : Option U) (found_is : found ≡ get_or takes link any) where
+    take_found : take_at before link ≡ option_map take found
+    take_found = get_or-map (option_map take) takes link any None (omega (arith, inside, links_are, are.takes_long, length-map takes (option_map take))) ∙ ap (option_map take) (sym found_is)
+
+    pub take_called : (end new : U) (answer : Option Word) → found ≡ Some end → TakesOne (take end) (take new) answer
+        → AreOwn (own_of put take job node puts (set takes link (Some new))) × Takes link (ends_of own) (ends_of (own_of put take job node puts (set takes link (Some new)))) answer
+    take_called end new answer is takes_one =
+        subst (λ (list : List (Option SeenTakeEnd)). AreOwn (record before { takes = list }) × Takes link (ends_of own) (ends_of (record before { takes = list })) answer) (sym (map-set (option_map take) takes link (Some new)))
+        (subst (λ (one : SeenOwn). AreOwn (record before { takes = set before.takes link (Some (take new)) }) × Takes link (ends_of one) (ends_of (record before { takes = set before.takes link (Some (take new)) })) answer) view_is (take_done before are link (take end) (take_found ∙ ap (option_map take) is) answer (take new) takes_one))
+
+  -- both are given up
+  pub had : (any found : Option T) → found ≡ get_or puts link any → (other one : Option U) → one ≡ get_or takes link other → Has own link (option_map put found) (option_map take one)
+  had any found found_is other one one_is = subst (λ (seen : SeenOwn). Has seen link (option_map put found) (option_map take one)) view_is (record {
+    put_is = put_found any found found_is;
+    put_fits = λ end is. are.puts link end (put_found any found found_is ∙ is);
+    take_is = take_found other one one_is;
+    take_fits = λ end is. are.takes link end (take_found other one one_is ∙ is);
+  })
 
 -- no ends yet
 pub no_own : (job : Job) (node : ℕ) (puts : List (Option SeenPutEnd)) (takes : List (Option SeenTakeEnd)) → length puts ≡ length job.checked.board.links → length takes ≡ length job.checked.board.links

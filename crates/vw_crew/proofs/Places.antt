@@ -1,11 +1,12 @@
 -- Places with something or nothing in them.
-use Rattle.std.proofs.Common.{◌≡◌, ◌<◌, ◌∷◌, ◌⊎◌, ℕ, zero, suc, Bool, true, false, List, [], length, map, get_or, set, replicate, eqb, if◌then◌else◌, ap, refl, sym, subst, ◌∙◌, ⊎_elim, inl, inr, eqb-true, Option, Some, None, arith}
+use Rattle.std.proofs.Common.{◌≡◌, ◌<◌, ◌∷◌, ◌⊎◌, ℕ, zero, suc, Bool, true, false, List, [], length, map, get_or, set, replicate, eqb, if◌then◌else◌, ap, refl, sym, subst, ◌∙◌, ⊎_elim, inl, inr, eq-eqb, eqb-true, Option, Some, None, arith}
 use Rattle.std.proofs.Math.Path.{fun_ext}
-use Rattle.std.proofs.lemmas.Bool.{cases_eq, eqb-false}
+use Rattle.std.proofs.lemmas.Bool.{cases_eq, eqb-false, ne_eqb}
 use Rattle.std.specs.Option.{option_map}
 use Rattle.std.proofs.Math.ListN.{get_or-map as get_or_map}
-use Rattle.std.proofs.lemmas.List.{get_or-replicate, get_or-set_other, get_or-set_same, length-map, length-replicate}
+use Rattle.std.proofs.lemmas.List.{get_or-replicate, get_or-set_other, get_or-set_same, length-map, length-replicate, length-set}
 use Rattle.std.proofs.lemmas.Option.{none-some}
+use Rattle.vw_crew.specs.Groups.{placed}
 
 -- a place with something in it is there
 pub place_within : {A : Type 0} (places : List (Option A)) (place : ℕ) (one : A) → get_or places place None ≡ Some one → place < length places
@@ -39,6 +40,22 @@ module _ {A : Type 0} (places : List (Option A)) (link : ℕ) (within : link < l
       by : (other : ℕ) → (other ≡ link) ⊎ (other ≡ link → ⊥) → value other (get_or (set places link new) other None) ≡ value other (get_or places other None)
       by other (inl same) = ap (λ (place : ℕ). value place (get_or (set places link new) place None)) same ∙ ap (value link) (get_or-set_same places link new None within) ∙ is ∙ ap (λ (place : ℕ). value place (get_or places place None)) (sym same)
       by other (inr apart) = ap (value other) (get_or-set_other places link other new None apart)
+
+-- the place for another link stays, there are as many places, and the one at the node itself has what was put there
+module _ {A : Type 0} (link : ℕ) (new : Option A) (places : List (Option A)) where
+  pub placed_other : (here : Bool) (other : ℕ) → (other ≡ link → ⊥) → get_or (placed here link new places) other None ≡ get_or places other None
+  placed_other true other apart = get_or-set_other places link other new None apart
+  placed_other false other apart = refl
+
+  pub placed_long : (here : Bool) → length (placed here link new places) ≡ length places
+  placed_long true = length-set places link new
+  placed_long false = refl
+
+  pub placed_here : (node : ℕ) → link < length places → get_or (placed (eqb node node) link new places) link None ≡ new
+  placed_here node within = ap (λ (here : Bool). get_or (placed here link new places) link None) (eq-eqb node node refl) ∙ get_or-set_same places link new None within
+
+  pub placed_apart : (other node : ℕ) → (other ≡ node → ⊥) → placed (eqb other node) link new places ≡ places
+  placed_apart other node apart = ap (λ (here : Bool). placed here link new places) (ne_eqb other node apart)
 
 abbrev nothing : {A : Type 0} → Option A
 nothing = None

@@ -1,5 +1,5 @@
 -- The ends of links that a node has, by the numbers of the links. No public clause cites it.
-use Rattle.std.specs.Prelude.{◌≡◌, ◌<◌, ◌+◌, ℕ, Bool, false, List, length, slice_index_or, Option, Some, None}
+use Rattle.std.specs.Prelude.{◌≡◌, ◌<◌, ◌+◌, ℕ, Bool, false, List, length, map, slice_index_or, Option, Some, None, option_map}
 use Rattle.vw_prog.specs.declared.job.Job.{Job}
 use Rattle.vw_prog.specs.declared.word.Word.{Word}
 use Rattle.vw_prog.specs.Ends.{SeenEnds}
@@ -20,12 +20,23 @@ put_at own link = slice_index_or own.puts link None
 abbrev pub take_at : SeenOwn → ℕ → Option SeenTakeEnd
 take_at own link = slice_index_or own.takes link None
 
--- each end is that of its link, and has the job's script
+-- the ends as code has them, seen
+abbrev pub own_of : {T U : Type 0} → (T → SeenPutEnd) → (U → SeenTakeEnd) → Job → ℕ → List (Option T) → List (Option U) → SeenOwn
+own_of put take job node puts takes = record { job = job; node = node; puts = map (option_map put) puts; takes = map (option_map take) takes }
+
+-- what a place for an end of a link has: nothing, or an end of that link with the job's script
+abbrev pub IsPutOf : Job → ℕ → Option SeenPutEnd → Type 0
+IsPutOf job link place = (end : SeenPutEnd) → place ≡ Some end → (end.link ≡ link) × (end.words ≡ script job link)
+
+abbrev pub IsTakeOf : Job → ℕ → Option SeenTakeEnd → Type 0
+IsTakeOf job link place = (end : SeenTakeEnd) → place ≡ Some end → (end.link ≡ link) × (end.words ≡ script job link)
+
+-- there is a place for each link of the job, with an end of that link or nothing
 pub record AreOwn (own : SeenOwn) : Type 0 where
   pub puts_long : length own.puts ≡ length own.job.checked.board.links
   pub takes_long : length own.takes ≡ length own.job.checked.board.links
-  pub puts : (link : ℕ) (end : SeenPutEnd) → put_at own link ≡ Some end → (end.link ≡ link) × (end.words ≡ script own.job link)
-  pub takes : (link : ℕ) (end : SeenTakeEnd) → take_at own link ≡ Some end → (end.link ≡ link) × (end.words ≡ script own.job link)
+  pub puts : (link : ℕ) → IsPutOf own.job link (put_at own link)
+  pub takes : (link : ℕ) → IsTakeOf own.job link (take_at own link)
 
 -- how many words were sent; behind the script's end where no end is, so that no word is to come there
 abbrev pub sent_of : List Word → Option SeenPutEnd → ℕ
@@ -72,23 +83,15 @@ ends_of own = record {
 
 -- ---- ends that come and go
 
--- an end at which words are put into a link, or taken from it, for the job of a node
-abbrev pub FitsPut : SeenOwn → ℕ → SeenPutEnd → Type 0
-FitsPut own link end = (link < length own.job.checked.board.links) × (end.link ≡ link) × (end.words ≡ script own.job link)
+-- a node may have these ends of a link, or none
+pub record MayHave (own : SeenOwn) (link : ℕ) (put : Option SeenPutEnd) (take : Option SeenTakeEnd) : Type 0 where
+  pub inside : link < length own.job.checked.board.links
+  pub put_fits : IsPutOf own.job link put
+  pub take_fits : IsTakeOf own.job link take
 
-abbrev pub FitsTake : SeenOwn → ℕ → SeenTakeEnd → Type 0
-FitsTake own link end = (link < length own.job.checked.board.links) × (end.link ≡ link) × (end.words ≡ script own.job link)
-
--- the node has such an end
-abbrev pub HasPutEnd : SeenOwn → ℕ → Type 0
-HasPutEnd own link = (end : SeenPutEnd) × (put_at own link ≡ Some end)
-
-abbrev pub HasTakeEnd : SeenOwn → ℕ → Type 0
-HasTakeEnd own link = (end : SeenTakeEnd) × (take_at own link ≡ Some end)
-
--- it was this one
-abbrev pub GivesPut : SeenOwn → ℕ → SeenPutEnd → Type 0
-GivesPut own link end = (put_at own link ≡ Some end) × (end.link ≡ link) × (end.words ≡ script own.job link)
-
-abbrev pub GivesTake : SeenOwn → ℕ → SeenTakeEnd → Type 0
-GivesTake own link end = (take_at own link ≡ Some end) × (end.link ≡ link) × (end.words ≡ script own.job link)
+-- it has them
+pub record Has (own : SeenOwn) (link : ℕ) (put : Option SeenPutEnd) (take : Option SeenTakeEnd) : Type 0 where
+  pub put_is : put_at own link ≡ put
+  pub put_fits : IsPutOf own.job link put
+  pub take_is : take_at own link ≡ take
+  pub take_fits : IsTakeOf own.job link take

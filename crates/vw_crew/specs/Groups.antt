@@ -1,8 +1,9 @@
 -- Groups of nodes with the ends of their links. No public clause cites it, but the view of a crew does.
-use Rattle.std.specs.Prelude.{◌≡◌, ◌<◌, ◌+◌, ◌*◌, ◌/◌, ◌%◌, ℕ, suc, Bool, List, length, map, slice_get, Option, Some}
+use Rattle.std.specs.Prelude.{◌≡◌, ◌<◌, ◌+◌, ◌*◌, ◌/◌, ◌%◌, ◌==◌, ℕ, suc, Bool, List, length, map, slice_get, slice_set, Option, Some, option_map, if◌then◌else◌}
 use Rattle.std.specs.Option.{option_and_then}
 use Rattle.vw_prog.specs.declared.job.Job.{Job}
 use Rattle.vw_prog.specs.declared.job.Share.{Share}
+use Rattle.vw_prog.specs.Fabric.{SeenPutEnd, SeenTakeEnd}
 use Rattle.vw_node.specs.declared.node.Node.{Node}
 use Rattle.vw_node.specs.Fits.{FitsJob, state_of}
 use Rattle.vw_node.specs.Positions.{Agrees}
@@ -87,14 +88,29 @@ pub record IsFirstGroup (job : Job) (groups number : ℕ) (group : SeenGroup) : 
   pub ends : (place : ℕ) (own : SeenOwn) → slice_get group.ends place ≡ Some own → IsOwnOf job (place * groups + number) own
   pub full : (place : ℕ) → place * groups + number < suc job.checked.board.chips → (place < length group.nodes) × (place < length group.ends)
 
--- ---- one node's ends have changed
+-- ---- the ends of one link have changed
 
-pub record Changes (old new : List SeenGroup) (node : ℕ) (after : SeenOwn) : Type 0 where
+-- there is a node with ends for a job
+abbrev pub HasOwn : Job → List SeenGroup → ℕ → Type 0
+HasOwn job groups node = (own : SeenOwn) × (own_at groups node ≡ Some own) × (own.job ≡ job)
+
+-- places with another one for a link, at the node whose place it is
+abbrev pub placed : {A : Type 0} → Bool → ℕ → Option A → List (Option A) → List (Option A)
+placed here link new places = if here then slice_set places link new else places
+
+-- the ends of a node as they were, but for a link's at one node
+abbrev pub relaid : ℕ → ℕ → Option SeenPutEnd → Option SeenTakeEnd → ℕ → SeenOwn → SeenOwn
+relaid node link put take other own = record own {
+  puts = placed (other == node) link put own.puts;
+  takes = placed (other == node) link take own.takes;
+}
+
+-- a node has other ends of a link, and all else is as it was
+pub record Changes (node link : ℕ) (put : Option SeenPutEnd) (take : Option SeenTakeEnd) (old new : List SeenGroup) : Type 0 where
   pub count : length new ≡ length old
   pub numbers : group_numbers new ≡ group_numbers old
-  pub nodes : map (λ group. group.nodes) new ≡ map (λ group. group.nodes) old
-  pub here : own_at new node ≡ Some after
-  pub others : (other : ℕ) → (other ≡ node → ⊥) → own_at new other ≡ own_at old other
+  pub nodes : (other : ℕ) → group_node new other ≡ group_node old other
+  pub ends : (other : ℕ) → own_at new other ≡ option_map (relaid node link put take other) (own_at old other)
 
 -- ---- all groups
 

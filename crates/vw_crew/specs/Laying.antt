@@ -7,22 +7,18 @@ use Rattle.vw_prog.specs.Fabric.{Carried, SeenPutEnd, SeenTakeEnd}
 use Rattle.vw_prog.specs.Scripts.{script}
 use Rattle.vw_node.specs.declared.node.Node.{Node}
 use Rattle.vw_crew.specs.Ends.{SeenOwn, put_at, take_at}
-use Rattle.vw_crew.specs.Groups.{AllAtWork, IsUnstarted, IsOwnOf, Marks, SeenGroup, own_marks, group_node, own_at}
+use Rattle.vw_crew.specs.Groups.{AllAtWork, HasOwn, IsUnstarted, IsOwnOf, Marks, SeenGroup, own_marks, group_node, own_at}
 
 -- a link that is laid, and over which so many words were sent and taken: the node that it leaves has the one end, and the node
 -- that it reaches the other, which keeps its words or doesn't
 pub record IsHung (job : Job) (keeps : Bool) (groups : List SeenGroup) (link moved from to : ℕ) : Type 0 where
-  pub putter : SeenOwn
-  pub putter_is : own_at groups from ≡ Some putter
-  pub put_job : putter.job ≡ job
+  pub putter : HasOwn job groups from
   pub put_end : SeenPutEnd
-  pub put_is : put_at putter link ≡ Some put_end
+  pub put_is : put_at putter.0 link ≡ Some put_end
   pub sent : put_end.sent ≡ moved
-  pub taker : SeenOwn
-  pub taker_is : own_at groups to ≡ Some taker
-  pub take_job : taker.job ≡ job
+  pub taker : HasOwn job groups to
   pub take_end : SeenTakeEnd
-  pub take_is : take_at taker link ≡ Some take_end
+  pub take_is : take_at taker.0 link ≡ Some take_end
   pub taken : take_end.taken ≡ moved
   pub kept : take_end.keeps ≡ keeps
 

@@ -1,4 +1,5 @@
 pub mod Ends
 pub mod Groups
 pub mod Laying
+pub mod Lending
 pub mod Seen

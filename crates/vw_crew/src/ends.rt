@@ -1,10 +1,11 @@
 //! The ends of the links of a node.
-ghost use Rattle.std.specs.Prelude.{◌≡◌, slice_set, replicate, Some, None, IfOk};
-ghost use Rattle.vw_crew.specs.Ends.{FitsPut, FitsTake, GivesPut, GivesTake, HasPutEnd, HasTakeEnd};
+ghost use Rattle.std.specs.Prelude.{◌≡◌, option_map, slice_set, replicate, None, IfOk};
+ghost use Rattle.vw_crew.specs.Ends.{Has, MayHave};
 ghost use Rattle.vw_crew.specs.Groups.{IsOwnOf};
 
 use std::alloc::{AllocError, Global};
 use std::marker::Model;
+use std::mem::replace;
 use std::snapshot::Snapshot;
 use vw_prog::{Ends, Job, PutEnd, TakeEnd, Word};
 
@@ -22,24 +23,14 @@ pub struct NodeEnds<T: PutEnd, U: TakeEnd> {
 }
 
 impl<T: PutEnd, U: TakeEnd> Model for NodeEnds<T, U> {
-    ghost use Rattle.std.specs.Prelude.{map, option_map};
-    ghost use Rattle.vw_crew.specs.Ends.{AreOwn, SeenOwn};
+    ghost use Rattle.vw_crew.specs.Ends.{AreOwn, SeenOwn, own_of};
 
     ghost Value = { SeenOwn };
 
-    ghost view = { λ ends. record {
-      job = ends.job.value;
-      node = ends.node;
-      puts = map (option_map T.seen) ends.puts.items;
-      takes = map (option_map U.seen) ends.takes.items;
-    } };
+    ghost view = { λ ends. own_of T.seen U.seen ends.job.value ends.node ends.puts.items ends.takes.items };
 
-    ghost invariant = { λ ends. AreOwn (record {
-      job = ends.job.value;
-      node = ends.node;
-      puts = map (option_map T.seen) ends.puts.items;
-      takes = map (option_map U.seen) ends.takes.items;
-    }) };
+    ghost invariant = { λ ends. AreOwn (own_of T.seen U.seen ends.job.value ends.node ends.puts.items
+        ends.takes.items) };
 }
 
 /// So many places without ends.
@@ -69,46 +60,18 @@ impl<T: PutEnd, U: TakeEnd> NodeEnds<T, U> {
         })
     }
 
-    /// Gives the node the end at which words are put into a link.
-    pub fn place_put(&mut self, link: u32, end: T)
-        requires { FitsPut self.old link (T.seen end) }
-        ensures { self.new
-            ≡ record self.old { puts = slice_set self.old.puts link (Some (T.seen end)) } }
+    /// Gives the node other ends of a link, or none. Gives those that it had.
+    pub fn change(&mut self, link: u32, put: Option<T>, take: Option<U>) -> (Option<T>, Option<U>)
+        requires { MayHave self.old link (option_map T.seen put) (option_map U.seen take) }
+        ensures had { Has self.old link (option_map T.seen result.0) (option_map U.seen result.1) }
+        ensures now { self.new ≡ record self.old {
+          puts = slice_set self.old.puts link (option_map T.seen put);
+          takes = slice_set self.old.takes link (option_map U.seen take);
+        } }
     {
-        self.puts[link as usize] = Some(end);
-    }
-
-    /// Gives the node the end at which words are taken from a link.
-    pub fn place_take(&mut self, link: u32, end: U)
-        requires { FitsTake self.old link (U.seen end) }
-        ensures { self.new
-            ≡ record self.old { takes = slice_set self.old.takes link (Some (U.seen end)) } }
-    {
-        self.takes[link as usize] = Some(end);
-    }
-
-    /// The end at which words are put into a link, given up.
-    pub fn lift_put(&mut self, link: u32) -> T
-        requires { HasPutEnd self.old link }
-        ensures end { GivesPut self.old link (T.seen result) }
-        ensures rest { self.new ≡ record self.old { puts = slice_set self.old.puts link None } }
-    {
-        match self.puts[link as usize].take() {
-            Some(end) => end,
-            None => unreachable!(),
-        }
-    }
-
-    /// The end at which words are taken from a link, given up.
-    pub fn lift_take(&mut self, link: u32) -> U
-        requires { HasTakeEnd self.old link }
-        ensures end { GivesTake self.old link (U.seen result) }
-        ensures rest { self.new ≡ record self.old { takes = slice_set self.old.takes link None } }
-    {
-        match self.takes[link as usize].take() {
-            Some(end) => end,
-            None => unreachable!(),
-        }
+        let put_was = replace(&mut self.puts[link as usize], put);
+        let take_was = replace(&mut self.takes[link as usize], take);
+        (put_was, take_was)
     }
 }
 

@@ -1,10 +1,11 @@
-ghost use Rattle.std.specs.Prelude.{◌≡◌, ◌≤◌, ◌<◌, ℕ, length, slice_get, slice_set, Some, None, IfOk};
+ghost use Rattle.std.specs.Prelude.{◌≡◌, ◌≤◌, ◌<◌, ℕ, length, slice_get, Some, IfOk};
+ghost use Rattle.std.specs.Borrow.{sem};
 ghost use Rattle.std.specs.Bool.{OnFalse, OnTrue};
 ghost use Rattle.vw_prog.specs.Actions.{ArePrograms};
 ghost use Rattle.vw_prog.specs.Scripts.{planned_of};
 ghost use Rattle.vw_node.specs.declared.node.Node.{Node};
-ghost use Rattle.vw_crew.specs.Ends.{FitsPut, FitsTake, GivesPut, GivesTake, HasPutEnd, HasTakeEnd, SeenOwn};
 ghost use Rattle.vw_crew.specs.Groups.{AreAtWork, IsFirstGroup, Stays};
+ghost use Rattle.vw_crew.specs.Lending.{LendsEnds};
 
 use crate::ends::NodeEnds;
 use crate::patience::{Patience, Round};
@@ -115,62 +116,13 @@ impl<'a, T: PutEnd, U: TakeEnd> Group<'a, T, U> {
         true
     }
 
-    /// Gives the node at a place the end at which words are put into a link.
-    pub fn place_put(&mut self, place: usize, link: u32, end: T)
-        requires { (own : SeenOwn) × (slice_get self.old.ends place ≡ Some own)
-            × FitsPut own link (T.seen end) }
-        ensures { (own : SeenOwn) → slice_get self.old.ends place ≡ Some own
-            → self.new ≡ record self.old {
-              ends = slice_set self.old.ends place (record own {
-                puts = slice_set own.puts link (Some (T.seen end));
-              });
-            } }
+    /// The ends of the node at a place.
+    pub fn ends_at(&mut self, place: usize) -> &mut NodeEnds<T, U>
+        requires { place < length self.old.ends }
+        ensures* lends { sem 𝓛 (LendsEnds T.row U.row T.PutEnd U.TakeEnd self.entry place result) }
+        ensures value { slice_get self.entry.now.ends place ≡ Some result.now }
     {
-        self.ends[place].place_put(link, end);
-    }
-
-    /// Gives the node at a place the end at which words are taken from a link.
-    pub fn place_take(&mut self, place: usize, link: u32, end: U)
-        requires { (own : SeenOwn) × (slice_get self.old.ends place ≡ Some own)
-            × FitsTake own link (U.seen end) }
-        ensures { (own : SeenOwn) → slice_get self.old.ends place ≡ Some own
-            → self.new ≡ record self.old {
-              ends = slice_set self.old.ends place (record own {
-                takes = slice_set own.takes link (Some (U.seen end));
-              });
-            } }
-    {
-        self.ends[place].place_take(link, end);
-    }
-
-    /// The end at which the node at a place puts words into a link, given up.
-    pub fn lift_put(&mut self, place: usize, link: u32) -> T
-        requires { (own : SeenOwn) × (slice_get self.old.ends place ≡ Some own) × HasPutEnd own link }
-        ensures end { (own : SeenOwn) → slice_get self.old.ends place ≡ Some own
-            → GivesPut own link (T.seen result) }
-        ensures rest { (own : SeenOwn) → slice_get self.old.ends place ≡ Some own
-            → self.new ≡ record self.old {
-              ends = slice_set self.old.ends place (record own {
-                puts = slice_set own.puts link None;
-              });
-            } }
-    {
-        self.ends[place].lift_put(link)
-    }
-
-    /// The end at which the node at a place takes words from a link, given up.
-    pub fn lift_take(&mut self, place: usize, link: u32) -> U
-        requires { (own : SeenOwn) × (slice_get self.old.ends place ≡ Some own) × HasTakeEnd own link }
-        ensures end { (own : SeenOwn) → slice_get self.old.ends place ≡ Some own
-            → GivesTake own link (U.seen result) }
-        ensures rest { (own : SeenOwn) → slice_get self.old.ends place ≡ Some own
-            → self.new ≡ record self.old {
-              ends = slice_set self.old.ends place (record own {
-                takes = slice_set own.takes link None;
-              });
-            } }
-    {
-        self.ends[place].lift_take(link)
+        &mut self.ends[place]
     }
 
     /// The node at a place goes on until it is refused or done. Says how many actions it made.

@@ -1,10 +1,10 @@
 //! All groups of a crew, and the node with a number in them.
-ghost use Rattle.std.specs.Prelude.{◌≡◌, ◌<◌, ◌≤◌, ℕ, length, slice_get, slice_set, Some, None, IfOk};
+ghost use Rattle.std.specs.Prelude.{◌≡◌, ◌<◌, ◌≤◌, ℕ, length, option_map, slice_get, Some, IfOk};
 ghost use Rattle.std.specs.Bool.{OnFalse, OnTrue};
 ghost use Rattle.vw_prog.specs.Actions.{ArePrograms};
 ghost use Rattle.vw_prog.specs.Scripts.{planned_of};
 ghost use Rattle.vw_node.specs.declared.node.Node.{Node};
-ghost use Rattle.vw_crew.specs.Ends.{FitsPut, FitsTake, GivesPut, GivesTake, HasPutEnd, HasTakeEnd, SeenOwn};
+ghost use Rattle.vw_crew.specs.Ends.{Has, MayHave, SeenOwn};
 ghost use Rattle.vw_crew.specs.Groups.{AllAtWork, AllStay, Changes, IsFirstGroup, SeenGroup, group_node, own_at};
 
 use crate::group::Group;
@@ -32,60 +32,25 @@ pub fn first_groups<'a, T: PutEnd, U: TakeEnd>(
     Ok(groups)
 }
 
-/// Gives a node the end at which words are put into a link.
-pub fn place_put<T: PutEnd, U: TakeEnd>(
+/// Gives a node other ends of a link, or none. Gives those that it had.
+pub fn change<T: PutEnd, U: TakeEnd>(
     groups: &mut [Group<'_, T, U>],
     node: u32,
     link: u32,
-    end: T,
-)
-    requires { (own : SeenOwn) × (own_at groups.old node ≡ Some own) × FitsPut own link (T.seen end) }
-    ensures { (own : SeenOwn) → own_at groups.old node ≡ Some own → Changes groups.old groups.new node
-        (record own { puts = slice_set own.puts link (Some (T.seen end)) }) }
+    put: Option<T>,
+    take: Option<U>,
+) -> (Option<T>, Option<U>)
+    requires { (own : SeenOwn) × (own_at groups.old node ≡ Some own)
+        × MayHave own link (option_map T.seen put) (option_map U.seen take) }
+    ensures had { (own : SeenOwn) → own_at groups.old node ≡ Some own
+        → Has own link (option_map T.seen result.0) (option_map U.seen result.1) }
+    ensures changes { Changes node link (option_map T.seen put) (option_map U.seen take)
+        groups.old groups.new }
 {
     let count = groups.len();
-    groups[node as usize % count].place_put(node as usize / count, link, end);
-}
-
-/// Gives a node the end at which words are taken from a link.
-pub fn place_take<T: PutEnd, U: TakeEnd>(
-    groups: &mut [Group<'_, T, U>],
-    node: u32,
-    link: u32,
-    end: U,
-)
-    requires { (own : SeenOwn) × (own_at groups.old node ≡ Some own) × FitsTake own link (U.seen end) }
-    ensures { (own : SeenOwn) → own_at groups.old node ≡ Some own → Changes groups.old groups.new node
-        (record own { takes = slice_set own.takes link (Some (U.seen end)) }) }
-{
-    let count = groups.len();
-    groups[node as usize % count].place_take(node as usize / count, link, end);
-}
-
-/// The end at which a node puts words into a link, given up.
-pub fn lift_put<T: PutEnd, U: TakeEnd>(groups: &mut [Group<'_, T, U>], node: u32, link: u32) -> T
-    requires { (own : SeenOwn) × (own_at groups.old node ≡ Some own) × HasPutEnd own link }
-    ensures end { (own : SeenOwn) → own_at groups.old node ≡ Some own
-        → GivesPut own link (T.seen result) }
-    ensures rest { (own : SeenOwn) → own_at groups.old node ≡ Some own
-        → Changes groups.old groups.new node
-        (record own { puts = slice_set own.puts link None }) }
-{
-    let count = groups.len();
-    groups[node as usize % count].lift_put(node as usize / count, link)
-}
-
-/// The end at which a node takes words from a link, given up.
-pub fn lift_take<T: PutEnd, U: TakeEnd>(groups: &mut [Group<'_, T, U>], node: u32, link: u32) -> U
-    requires { (own : SeenOwn) × (own_at groups.old node ≡ Some own) × HasTakeEnd own link }
-    ensures end { (own : SeenOwn) → own_at groups.old node ≡ Some own
-        → GivesTake own link (U.seen result) }
-    ensures rest { (own : SeenOwn) → own_at groups.old node ≡ Some own
-        → Changes groups.old groups.new node
-        (record own { takes = slice_set own.takes link None }) }
-{
-    let count = groups.len();
-    groups[node as usize % count].lift_take(node as usize / count, link)
+    groups[node as usize % count]
+        .ends_at(node as usize / count)
+        .change(link, put, take)
 }
 
 /// Each node of the group with a number goes on until it is refused or done, one after the other. Says how many actions they

@@ -5,7 +5,7 @@ ghost use Rattle.vw_crew.specs.Groups.{group_numbers};
 ghost use Rattle.vw_crew.specs.Laying.{CanLift, HasSameNodes, IsBare, IsCrew, carried_on};
 
 use crate::group::Group;
-use crate::groups::{lift_put, lift_take, place_put, place_take};
+use crate::groups::change;
 use std::alloc::{AllocError, Global};
 use vw_prog::{Fabric, Job};
 
@@ -27,11 +27,11 @@ pub fn lift_all<F: Fabric>(
 {
     let links = job.checked().board().links();
     for number in 0..count {
-        let link = &links[number];
-        let place = number as u32;
-        let put = lift_put(groups, link.from(), place);
-        let take = lift_take(groups, link.to(), place);
-        fabric.lift(place, put, take);
+        let ends = &links[number];
+        let link = number as u32;
+        let (put, _) = change(groups, ends.from(), link, None, None);
+        let (_, take) = change(groups, ends.to(), link, None, None);
+        fabric.lift(link, put.unwrap(), take.unwrap());
     }
 }
 
@@ -49,12 +49,12 @@ pub fn lay_all<F: Fabric>(
 {
     let links = job.checked().board().links();
     for number in 0..links.len() {
-        let link = &links[number];
-        let place = number as u32;
-        match fabric.lay(alloc, job, place) {
+        let ends = &links[number];
+        let link = number as u32;
+        match fabric.lay(alloc, job, link) {
             Ok((put, take)) => {
-                place_put(groups, link.from(), place, put);
-                place_take(groups, link.to(), place, take);
+                change(groups, ends.from(), link, Some(put), None);
+                change(groups, ends.to(), link, None, Some(take));
             }
             Err(refused) => {
                 lift_all(fabric, job, groups, number);
