@@ -21,10 +21,12 @@ both_found next (Some one) last is = (one, (refl, is))
 pub same_number : (node other count : ℕ) → other % count ≡ node % count → other / count ≡ node / count → other ≡ node
 same_number node other count rest quotient = sym (div-add-mod other count) ∙ ap (λ (whole : ℕ). count * whole + other % count) quotient ∙ ap (λ (part : ℕ). count * (node / count) + part) rest ∙ div-add-mod node count
 
+-- what changes nothing leaves what is found
 same_mapped : {A : Type 0} (change : A → A) (found : Option A) → ((one : A) → change one ≡ one) → option_map change found ≡ found
 same_mapped change None same = refl
 same_mapped change (Some one) same = ap Some (same one)
 
+-- a node has ends
 module _ (groups : List SeenGroup) (node : ℕ) (own : SeenOwn) (there : own_at groups node ≡ Some own) where
   abbrev count : ℕ
   count = length groups
@@ -50,6 +52,7 @@ module _ (groups : List SeenGroup) (node : ℕ) (own : SeenOwn) (there : own_at 
     pub place_inside : node / count < length read.ends
     place_inside = slice_get_within read.ends (node / count) own read_has
 
+    -- those that it lends at the place are these
     pub same_own : (lent : SeenOwn) → slice_get read.ends (node / count) ≡ Some lent → lent ≡ own
     same_own lent is = ap (λ (found : Option SeenOwn). unwrap_or found lent) (sym is ∙ read_has)
 

@@ -36,52 +36,52 @@ module _ (job : Job) (keeps : Bool) where
   pub none_laid : (groups : List SeenGroup) → IsBare job groups → IsLaying job keeps groups 0
   none_laid groups bare = record { bare = bare; hung = λ number link first inside is. absurd (omega (arith, inside)) }
 
-  module _ (groups : List SeenGroup) (done : ℕ) (laying : IsLaying job keeps groups done) where
-    module _ (link : Link) (link_is : slice_get job.checked.board.links done ≡ Some link) (tx : SeenPutEnd) (sent : tx.sent ≡ 0) (rx : SeenTakeEnd) (taken : rx.taken ≡ 0) (kept : rx.keeps ≡ keeps)
-        (middle new : List SeenGroup) (puts : Changes link.from done (Some tx) None groups middle) (takes : Changes link.to done None (Some rx) middle new) where
-      two : AreTwo job link.from link.to
-      two = are_two job done link link_is
+  -- the ends of the next link are given to its nodes, one after the other
+  module _ (groups : List SeenGroup) (done : ℕ) (laying : IsLaying job keeps groups done) (link : Link) (link_is : slice_get job.checked.board.links done ≡ Some link) (tx : SeenPutEnd) (sent : tx.sent ≡ 0) (rx : SeenTakeEnd) (taken : rx.taken ≡ 0) (kept : rx.keeps ≡ keeps)
+      (middle new : List SeenGroup) (puts : Changes link.from done (Some tx) None groups middle) (takes : Changes link.to done None (Some rx) middle new) where
+    two : AreTwo job link.from link.to
+    two = are_two job done link link_is
 
-      within : done < length job.checked.board.links
-      within = slice_get_within job.checked.board.links done link link_is
+    within : done < length job.checked.board.links
+    within = slice_get_within job.checked.board.links done link link_is
 
-      middle_bare : IsBare job middle
-      middle_bare = still_bare link.from done (Some tx) None groups middle puts job laying.bare
+    middle_bare : IsBare job middle
+    middle_bare = still_bare link.from done (Some tx) None groups middle puts job laying.bare
 
-      this_hung : IsHung job keeps new done 0 link.from link.to
-      this_hung =
-          let putter = bare_own job groups laying.bare link.from two.from_inside in
-          let taker = bare_own job middle middle_bare link.to two.to_inside in
-          record {
-            putter = still_has link.to done None (Some rx) middle new takes job link.from (still_has link.from done (Some tx) None groups middle puts job link.from (putter.0, putter.1, putter.2.same_job));
-            put_end = tx;
-            put_is = ap (λ (places : List (Option SeenPutEnd)). get_or places done None) (placed_apart done None (placed (link.from == link.from) done (Some tx) putter.0.puts) link.from link.to two.apart)
-                ∙ placed_here done (Some tx) putter.0.puts link.from (omega (arith, within, putter.2.puts));
-            sent = sent;
-            taker = still_has link.to done None (Some rx) middle new takes job link.to (taker.0, taker.1, taker.2.same_job);
-            take_end = rx;
-            take_is = placed_here done (Some rx) taker.0.takes link.to (omega (arith, within, taker.2.takes));
-            taken = taken;
-            kept = kept;
-          }
+    this_hung : IsHung job keeps new done 0 link.from link.to
+    this_hung =
+        let putter = bare_own job groups laying.bare link.from two.from_inside in
+        let taker = bare_own job middle middle_bare link.to two.to_inside in
+        record {
+          putter = still_has link.to done None (Some rx) middle new takes job link.from (still_has link.from done (Some tx) None groups middle puts job link.from (putter.0, putter.1, putter.2.same_job));
+          put_end = tx;
+          put_is = ap (λ (places : List (Option SeenPutEnd)). get_or places done None) (placed_apart done None (placed (link.from == link.from) done (Some tx) putter.0.puts) link.from link.to two.apart)
+              ∙ placed_here done (Some tx) putter.0.puts link.from (omega (arith, within, putter.2.puts));
+          sent = sent;
+          taker = still_has link.to done None (Some rx) middle new takes job link.to (taker.0, taker.1, taker.2.same_job);
+          take_end = rx;
+          take_is = placed_here done (Some rx) taker.0.takes link.to (omega (arith, within, taker.2.takes));
+          taken = taken;
+          kept = kept;
+        }
 
-      other_hung : (number : ℕ) (other : Link) → number < done → slice_get job.checked.board.links number ≡ Some other → IsHung job keeps new number 0 other.from other.to
-      other_hung number other before is =
-          let apart : number ≡ done → ⊥ = λ same. absurd (omega (arith, before, same)) in
-          still_hung link.to done None (Some rx) middle new takes job keeps number 0 other.from other.to apart
-          (still_hung link.from done (Some tx) None groups middle puts job keeps number 0 other.from other.to apart (laying.hung number other (omega arith) before is))
+    other_hung : (number : ℕ) (other : Link) → number < done → slice_get job.checked.board.links number ≡ Some other → IsHung job keeps new number 0 other.from other.to
+    other_hung number other before is =
+        let apart : number ≡ done → ⊥ = λ same. absurd (omega (arith, before, same)) in
+        still_hung link.to done None (Some rx) middle new takes job keeps number 0 other.from other.to apart
+        (still_hung link.from done (Some tx) None groups middle puts job keeps number 0 other.from other.to apart (laying.hung number other (omega arith) before is))
 
-      pub one_laid : IsLaying job keeps new (done + 1)
-      one_laid = record {
-        bare = still_bare link.to done None (Some rx) middle new takes job middle_bare;
-        hung = λ number other first inside is.
-            let if_before = λ (before : number < done). other_hung number other before is in
-            let if_last = λ (past : done ≤ number).
-            let same : number ≡ done = omega (arith, past, inside) in
-            let its : other ≡ link = ap (λ (found : Option Link). unwrap_or found other) (sym is ∙ ap (slice_get job.checked.board.links) same ∙ link_is) in
-            subst (λ (one : Link). IsHung job keeps new number 0 one.from one.to) (sym its) (subst (λ (at : ℕ). IsHung job keeps new at 0 link.from link.to) (sym same) this_hung) in
-            ⊎_elim if_before if_last (cases_lt number done);
-      }
+    pub one_laid : IsLaying job keeps new (done + 1)
+    one_laid = record {
+      bare = still_bare link.to done None (Some rx) middle new takes job middle_bare;
+      hung = λ number other first inside is.
+          let if_before = λ (before : number < done). other_hung number other before is in
+          let if_last = λ (past : done ≤ number).
+          let same : number ≡ done = omega (arith, past, inside) in
+          let its : other ≡ link = ap (λ (found : Option Link). unwrap_or found other) (sym is ∙ ap (slice_get job.checked.board.links) same ∙ link_is) in
+          subst (λ (one : Link). IsHung job keeps new number 0 one.from one.to) (sym its) (subst (λ (at : ℕ). IsHung job keeps new at 0 link.from link.to) (sym same) this_hung) in
+          ⊎_elim if_before if_last (cases_lt number done);
+    }
 
   -- ---- all links are laid
 

@@ -41,7 +41,8 @@ module _ {A : Type 0} (places : List (Option A)) (link : ℕ) (within : link < l
       by other (inl same) = ap (λ (place : ℕ). value place (get_or (set places link new) place None)) same ∙ ap (value link) (get_or-set_same places link new None within) ∙ is ∙ ap (λ (place : ℕ). value place (get_or places place None)) (sym same)
       by other (inr apart) = ap (value other) (get_or-set_other places link other new None apart)
 
--- the place for another link stays, there are as many places, and the one at the node itself has what was put there
+-- the place for another link stays, there are as many places, that of the link has what was put there, and another node has
+-- the places that it had
 module _ {A : Type 0} (link : ℕ) (new : Option A) (places : List (Option A)) where
   pub placed_other : (here : Bool) (other : ℕ) → (other ≡ link → ⊥) → get_or (placed here link new places) other None ≡ get_or places other None
   placed_other true other apart = get_or-set_other places link other new None apart

@@ -20,7 +20,7 @@ put_at own link = slice_index_or own.puts link None
 abbrev pub take_at : SeenOwn → ℕ → Option SeenTakeEnd
 take_at own link = slice_index_or own.takes link None
 
--- the ends as code has them, seen
+-- the ends as clauses see them, of the ends that code has
 abbrev pub own_of : {T U : Type 0} → (T → SeenPutEnd) → (U → SeenTakeEnd) → Job → ℕ → List (Option T) → List (Option U) → SeenOwn
 own_of put take job node puts takes = record { job = job; node = node; puts = map (option_map put) puts; takes = map (option_map take) takes }
 

@@ -33,7 +33,7 @@ pub fn first_groups<'a, T: PutEnd, U: TakeEnd>(
 }
 
 /// Gives a node other ends of a link, or none. Gives those that it had.
-pub fn change<T: PutEnd, U: TakeEnd>(
+pub fn change_ends<T: PutEnd, U: TakeEnd>(
     groups: &mut [Group<'_, T, U>],
     node: u32,
     link: u32,

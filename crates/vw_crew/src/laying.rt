@@ -5,7 +5,7 @@ ghost use Rattle.vw_crew.specs.Groups.{group_numbers};
 ghost use Rattle.vw_crew.specs.Laying.{CanLift, HasSameNodes, IsBare, IsCrew, carried_on};
 
 use crate::group::Group;
-use crate::groups::change;
+use crate::groups::change_ends;
 use std::alloc::{AllocError, Global};
 use vw_prog::{Fabric, Job};
 
@@ -27,11 +27,11 @@ pub fn lift_all<F: Fabric>(
 {
     let links = job.checked().board().links();
     for number in 0..count {
-        let ends = &links[number];
-        let link = number as u32;
-        let (put, _) = change(groups, ends.from(), link, None, None);
-        let (_, take) = change(groups, ends.to(), link, None, None);
-        fabric.lift(link, put.unwrap(), take.unwrap());
+        let link = &links[number];
+        let place = number as u32;
+        let (put, _) = change_ends(groups, link.from(), place, None, None);
+        let (_, take) = change_ends(groups, link.to(), place, None, None);
+        fabric.lift(place, put.unwrap(), take.unwrap());
     }
 }
 
@@ -49,12 +49,12 @@ pub fn lay_all<F: Fabric>(
 {
     let links = job.checked().board().links();
     for number in 0..links.len() {
-        let ends = &links[number];
-        let link = number as u32;
-        match fabric.lay(alloc, job, link) {
+        let link = &links[number];
+        let place = number as u32;
+        match fabric.lay(alloc, job, place) {
             Ok((put, take)) => {
-                change(groups, ends.from(), link, Some(put), None);
-                change(groups, ends.to(), link, None, Some(take));
+                change_ends(groups, link.from(), place, Some(put), None);
+                change_ends(groups, link.to(), place, None, Some(take));
             }
             Err(refused) => {
                 lift_all(fabric, job, groups, number);

@@ -28,15 +28,15 @@ module _ (g : Over) (c : In-loop-number g) where
   link = link_at c.links-links.result.now c.loop-number.number
 
   next : (c.loop-number.number < length c.args.job.now.checked.board.links) × (slice_get c.args.job.now.checked.board.links c.loop-number.number ≡ Some link)
-  next = board_link c.links-links.result.now c.args.job.now.checked.board.links (links_are g (goal.at.overflow_cast-link g c).After-links-links) c.loop-number.number c.loop-number-test.true
+  next = board_link c.links-links.result.now c.args.job.now.checked.board.links (links_are g (goal.at.overflow_cast-place g c).After-links-links) c.loop-number.number c.loop-number-test.true
 
 -- the node that the next link leaves has its end
 module _ (g : Over) (c : After-to g) where
   abbrev at : In-loop-number g
-  at = (goal.at.change-requires-in-Ok g c).In-loop-number
+  at = (goal.at.change_ends-requires-in-Ok g c).In-loop-number
 
-  puts : Changes (link g at).from c.loop-number.number (Some (g.F.Tx.PutEnd.seen c.in-Ok.put)) None c.loop-number.groups c.change.new.groups
-  puts = subst (λ (from : ℕ). Changes from c.loop-number.number (Some (g.F.Tx.PutEnd.seen c.in-Ok.put)) None c.loop-number.groups c.change.new.groups) c.from.ensures c.change.ensures.changes
+  puts : Changes (link g at).from c.loop-number.number (Some (g.F.Tx.PutEnd.seen c.in-Ok.put)) None c.loop-number.groups c.change_ends.new.groups
+  puts = subst (λ (from : ℕ). Changes from c.loop-number.number (Some (g.F.Tx.PutEnd.seen c.in-Ok.put)) None c.loop-number.groups c.change_ends.new.groups) c.from.ensures c.change_ends.ensures.changes
 
 -- those of the links can be lifted that were laid before a refusal
 can_lift : (g : Over) (c : In-Err g) → CanLift c.args.job.now (g.F.Fabric.carried c.lay.new.self) c.loop-number.number (λ link. 0) c.loop-number.groups
@@ -46,32 +46,32 @@ can_lift g c =
     (told, telling, c.loop-number.invariant.laying.hung)
 
 -- a board has few links
-pub overflow_cast-link : goal.overflow_cast-link
-overflow_cast-link g c = omega (arith, few_links_on c.args.job.now.checked.board, (next g (goal.at.overflow_cast-link g c).In-loop-number).0)
+pub overflow_cast-place : goal.overflow_cast-place
+overflow_cast-place g c = omega (arith, few_links_on c.args.job.now.checked.board, (next g (goal.at.overflow_cast-place g c).In-loop-number).0)
 
 pub loop-number-init : goal.loop-number-init
 loop-number-init g c = record { laying = none_laid c.args.job.now (is_some (g.F.Fabric.carried c.args.fabric.now)) c.args.groups.now c.requires; numbers = refl; same = refl }
 
-pub change-requires : goal.change-requires
-change-requires g c =
+pub change_ends-requires : goal.change_ends-requires
+change_ends-requires g c =
     let job = c.args.job.now in
     let number = c.loop-number.number in
-    let at = (goal.at.change-requires g c).In-loop-number in
+    let at = (goal.at.change_ends-requires g c).In-loop-number in
     let own = bare_own job c.loop-number.groups c.loop-number.invariant.laying.bare (link g at).from (are_two job number (link g at) (next g at).1).from_inside in
     let tx = g.F.Tx.PutEnd.seen c.in-Ok.put in
     let tx_is = c.in-Ok.ensures.laid.put_end (link g at) (next g at).1 in
     (own.0, ap (own_at c.loop-number.groups) c.from.ensures ∙ own.1, may_have job number own.0 own.2.same_job (next g at).0 (Some tx) None (some_put job number tx (ap (λ (end : SeenPutEnd). end.link) tx_is) (ap (λ (end : SeenPutEnd). end.words) tx_is)) (no_take job number))
 
-pub change-requires-in-Ok : goal.change-requires-in-Ok
-change-requires-in-Ok g c =
+pub change_ends-requires-in-Ok : goal.change_ends-requires-in-Ok
+change_ends-requires-in-Ok g c =
     let job = c.args.job.now in
     let number = c.loop-number.number in
-    let at = (goal.at.change-requires-in-Ok g c).In-loop-number in
-    let bare = still_bare (link g at).from number _ None c.loop-number.groups c.change.new.groups (puts g c) job c.loop-number.invariant.laying.bare in
-    let own = bare_own job c.change.new.groups bare (link g at).to (are_two job number (link g at) (next g at).1).to_inside in
+    let at = (goal.at.change_ends-requires-in-Ok g c).In-loop-number in
+    let bare = still_bare (link g at).from number _ None c.loop-number.groups c.change_ends.new.groups (puts g c) job c.loop-number.invariant.laying.bare in
+    let own = bare_own job c.change_ends.new.groups bare (link g at).to (are_two job number (link g at) (next g at).1).to_inside in
     let rx = g.F.Rx.TakeEnd.seen c.in-Ok.take in
     let rx_is = c.in-Ok.ensures.laid.take_end in
-    (own.0, ap (own_at c.change.new.groups) c.to.ensures ∙ own.1, may_have job number own.0 own.2.same_job (next g at).0 None (Some rx) (no_put job number) (some_take job number rx (ap (λ (end : SeenTakeEnd). end.link) rx_is) (ap (λ (end : SeenTakeEnd). end.words) rx_is)))
+    (own.0, ap (own_at c.change_ends.new.groups) c.to.ensures ∙ own.1, may_have job number own.0 own.2.same_job (next g at).0 None (Some rx) (no_put job number) (some_take job number rx (ap (λ (end : SeenTakeEnd). end.link) rx_is) (ap (λ (end : SeenTakeEnd). end.words) rx_is)))
 
 pub loop-number-preserved : goal.loop-number-preserved
 loop-number-preserved g c =
@@ -81,11 +81,11 @@ loop-number-preserved g c =
     let tx = g.F.Tx.PutEnd.seen c.in-Ok.put in
     let rx = g.F.Rx.TakeEnd.seen c.in-Ok.take in
     let rx_is = c.in-Ok.ensures.laid.take_end in
-    let takes = subst (λ (node : ℕ). Changes node number None (Some rx) c.change.new.groups c.change-in-Ok.new.groups) c.to.ensures c.change-in-Ok.ensures.changes in
+    let takes = subst (λ (node : ℕ). Changes node number None (Some rx) c.change_ends.new.groups c.change_ends-in-Ok.new.groups) c.to.ensures c.change_ends-in-Ok.ensures.changes in
     let kept : rx.keeps ≡ told g at = ap (λ (end : SeenTakeEnd). end.keeps) rx_is ∙ ap (λ (carried : Carried). is_some carried) c.loop-number.invariant.same in
     record {
       laying = one_laid c.args.job.now (told g at) c.loop-number.groups number c.loop-number.invariant.laying (link g at) (next g at).1
-          tx (ap (λ (end : SeenPutEnd). end.sent) (c.in-Ok.ensures.laid.put_end (link g at) (next g at).1)) rx (ap (λ (end : SeenTakeEnd). end.taken) rx_is) kept c.change.new.groups c.change-in-Ok.new.groups (puts g to) takes;
+          tx (ap (λ (end : SeenPutEnd). end.sent) (c.in-Ok.ensures.laid.put_end (link g at) (next g at).1)) rx (ap (λ (end : SeenTakeEnd). end.taken) rx_is) kept c.change_ends.new.groups c.change_ends-in-Ok.new.groups (puts g to) takes;
       numbers = takes.numbers ∙ (puts g to).numbers ∙ c.loop-number.invariant.numbers;
       same = c.lay.ensures.same ∙ c.loop-number.invariant.same;
     }

@@ -2,7 +2,7 @@ use Rattle.std.proofs.Common.{set, ap, sym, subst, ◌∙◌}
 use Rattle.std.specs.Prelude.{option_map}
 use Rattle.vw_crew.specs.Ends.{Has, MayHave, SeenOwn}
 use Rattle.vw_crew.proofs.Dealt.{place_inside, same_own, written}
-use Rattle.vw_crew.proofs.groups.change.Goals as goal
+use Rattle.vw_crew.proofs.groups.change_ends.Goals as goal
 
 pub ends_at-requires : goal.ends_at-requires
 ends_at-requires g c = place_inside c.args.groups.now c.args.node c.requires.0 c.requires.1 c.index-groups-node.result
