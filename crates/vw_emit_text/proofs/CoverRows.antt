@@ -1,16 +1,14 @@
 -- The rows of tables, by their numbers.
-use Rattle.std.proofs.Common.{◌≡◌, ◌<◌, ◌+◌, ◌++◌, ℕ, List, [], ◌∷◌, length, drop, get_or, slice_get, Some, ap, refl, sym, ◌∙◌, append_assoc, arith}
+use Rattle.std.proofs.Common.{◌≡◌, ◌<◌, ◌+◌, ◌++◌, ℕ, List, [], ◌∷◌, length, drop, get_or, slice_get, Some, ap, refl, sym, ◌∙◌, arith}
 use Rattle.std.specs.Option.{option_and_then}
-use Rattle.std.proofs.lemmas.List.{drop_more, get_or_default}
+use Rattle.std.proofs.lemmas.List.{get_or_default}
 use Rattle.std.proofs.lemmas.Option.{get_or_from_slice_get, slice_get_read}
 use Rattle.vw_net.specs.declared.cover.Cover.{Cover}
 use Rattle.vw_net.specs.declared.cover.Mark.{Mark}
 use Rattle.vw_net.specs.declared.cover.Row.{Row}
 use Rattle.vw_net.specs.Cover.{mark_at}
 use Rattle.vw_net.proofs.GatheredLists.{mapped_more}
-use Rattle.vw_text.specs.Physical.{lines_text}
-use Rattle.vw_emit_text.specs.Lines.{mark_code, row_line, row_lines}
-use Rattle.vw_text.specs.Printed.{with_newline}
+use Rattle.vw_blif.specs.Printed.{mark_byte}
 use Rattle.vw_emit_text.specs.Steps.{marks_text, row_marks}
 
 module _ (cover : Cover) (row : ℕ) (within : row < length cover.rows) where
@@ -19,23 +17,13 @@ module _ (cover : Cover) (row : ℕ) (within : row < length cover.rows) where
   length-row_marks = cover.even row (record { marks = [] }) within
 
   -- one more mark is written
-  pub marks_more : (written after whole : List ℕ) (input : ℕ) (mark : Mark) → input < cover.inputs → mark_at cover row input ≡ Some mark → after ≡ written ++ mark_code mark ∷ []
+  pub marks_more : (written after whole : List ℕ) (input : ℕ) (mark : Mark) → input < cover.inputs → mark_at cover row input ≡ Some mark → after ≡ written ++ mark_byte mark ∷ []
       → written ++ marks_text (drop input (row_marks cover row)) ≡ whole → after ++ marks_text (drop (input + 1) (row_marks cover row)) ≡ whole
   marks_more written after whole input mark inside at is so_far =
       let default : Row = record { marks = [] } in
       let here : slice_get cover.rows row ≡ Some (get_or cover.rows row default) = slice_get_or cover.rows row default within in
       let its : slice_get (row_marks cover row) input ≡ Some mark = ap (option_and_then (λ (one : Row). slice_get one.marks input)) (sym here) ∙ at in
       let same : get_or (row_marks cover row) input mark ≡ mark = get_or_from_slice_get (row_marks cover row) input mark mark its in
-      mapped_more mark_code (row_marks cover row) input mark written after whole (mark_code mark) (omega (arith, length-row_marks, inside)) (ap mark_code (sym same)) is so_far where
+      mapped_more mark_byte (row_marks cover row) input mark written after whole (mark_byte mark) (omega (arith, length-row_marks, inside)) (ap mark_byte (sym same)) is so_far where
         slice_get_or : (rows : List Row) (place : ℕ) (none : Row) → place < length rows → slice_get rows place ≡ Some (get_or rows place none)
         slice_get_or rows place none low = slice_get_read rows (length rows) place (get_or rows place none) refl low (get_or_default rows place none (get_or rows place none) low)
-
--- one more row is written
-pub rows_more : (rows : List Row) (value : List ℕ) (row : ℕ) (written after whole : List ℕ) → row < length rows → after ≡ written ++ with_newline (row_line (get_or rows row (record { marks = [] })).marks value)
-    → written ++ lines_text (row_lines (drop row rows) value) ≡ whole → after ++ lines_text (row_lines (drop (row + 1) rows) value) ≡ whole
-rows_more rows value row written after whole within is so_far =
-    let default : Row = record { marks = [] } in
-    let rest = lines_text (row_lines (drop (row + 1) rows) value) in
-    let line = with_newline (row_line (get_or rows row default).marks value) in
-    let opened : lines_text (row_lines (drop row rows) value) ≡ line ++ rest = ap (λ (left : List Row). lines_text (row_lines left value)) (drop_more rows row default within) in
-    ap (λ (front : List ℕ). front ++ rest) is ∙ append_assoc written line rest ∙ ap (λ (left : List ℕ). written ++ left) (sym opened) ∙ so_far

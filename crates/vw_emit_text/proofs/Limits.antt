@@ -1,5 +1,5 @@
 -- What is within the limits is above none of them, and what isn't is above a first one.
-use Rattle.std.proofs.Common.{◌≡◌, ◌≤◌, ◌<◌, ◌⊎◌, inl, inr, IsTrue, length, refl, sym, true≢false, arith}
+use Rattle.std.proofs.Common.{◌≤◌, ◌<◌, ◌⊎◌, inl, inr, IsTrue, length, refl, sym, true≢false, arith}
 use Rattle.std.proofs.lemmas.Bool.{cases_lt}
 use Rattle.vw_net.specs.declared.limits.TheConstants.{MOST_CELLS, MOST_DESIGN_OUTPUTS}
 use Rattle.vw_text.specs.declared.limits.TheConstants.{MOST_DESIGN_BYTES}

@@ -10,18 +10,11 @@ any_more i n text more all within is so_far =
     let left : n - i ≡ suc (n - (i + 1)) = omega arith in
     next_written text more all (45 ∷ []) (marks_text (replicate (n - (i + 1)) Any)) (marks_text (replicate (n - i) Any)) is (ap (λ (many : ℕ). marks_text (replicate many Any)) left) so_far
 
--- the table of the first hop of a pin, and of a later one
-pub first_shape : (word stage sent chosen end row : List ℕ) → word ++ (stage ++ (sent ++ (chosen ++ (end ++ (row ++ end))))) ≡ ((word ++ (stage ++ (sent ++ (chosen ++ [])))) ++ end) ++ ((row ++ end) ++ [])
-first_shape word stage sent chosen end row = simp (append_assoc, append-nil)
-
-pub next_shape : (word stage sent before chosen end row other : List ℕ) → word ++ (stage ++ (sent ++ (before ++ (chosen ++ (end ++ (row ++ (end ++ (other ++ end)))))))) ≡ ((word ++ (stage ++ (sent ++ (before ++ (chosen ++ []))))) ++ end) ++ ((row ++ end) ++ ((other ++ end) ++ []))
-next_shape word stage sent before chosen end row other = simp (append_assoc, append-nil)
-
 -- a line that places a model
 pub placed_shape : (word name ins outs end : List ℕ) → (word ++ name) ++ (ins ++ (outs ++ end)) ≡ (word ++ (name ++ (ins ++ outs))) ++ end
 placed_shape word name ins outs end = simp append_assoc
 
 -- a model
 pub model_shape : (word name ins_word ins outs_word outs items last end : List ℕ) → (word ++ name) ++ ((end ++ ins_word) ++ (ins ++ ((end ++ outs_word) ++ (outs ++ (end ++ (items ++ (last ++ end)))))))
-    ≡ ((word ++ (name ++ [])) ++ end) ++ (((ins_word ++ ins) ++ end) ++ (((outs_word ++ outs) ++ end) ++ (items ++ ((last ++ end) ++ []))))
+    ≡ ((word ++ (name ++ [])) ++ end) ++ (((ins_word ++ ins) ++ end) ++ (((outs_word ++ outs) ++ end) ++ (items ++ (last ++ end))))
 model_shape word name ins_word ins outs_word outs items last end = simp (append_assoc, append-nil)

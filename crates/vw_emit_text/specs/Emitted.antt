@@ -1,52 +1,38 @@
 -- The text of an emitted board, and its limits. Source: this project.
-use Rattle.std.specs.Prelude.{◌≡◌, ◌≤◌, ◌<◌, ◌+◌, ◌-◌, ◌*◌, ◌==◌, ℕ, List, ◌∷◌, ◌++◌, length, map, sum_by, codes, if◌then◌else◌}
-use Rattle.std.specs.List.{flat_map, range_with_len}
+use Rattle.std.specs.Prelude.{◌≡◌, ◌≤◌, ◌<◌, ◌+◌, ◌*◌, ℕ, List, [], ◌∷◌, length, sum_by}
+use Rattle.std.specs.List.{flat_map}
 use Rattle.vw_net.specs.Cells.{latch_count}
-use Rattle.vw_text.specs.Physical.{lines_text}
+use Rattle.vw_net.specs.Gathered.{gather}
+use Rattle.vw_blif.specs.Printed.{printed_by}
 use Rattle.vw_plan.specs.HopCounts.{hop_count}
 use Rattle.vw_plan.specs.PlannedBoard.{PlannedBoard}
+use Rattle.vw_plan.specs.declared.link.Link.{Link}
+use Rattle.vw_emit_hardware.specs.Items.{User, users}
 use Rattle.vw_emit_text.specs.declared.fault.EmitFault.{EmitFault}
-use Rattle.vw_emit_text.specs.declared.outlet.Outlet.{Outlet}
 use Rattle.vw_emit_text.specs.declared.fault.EmitFault.TheVariants.{TooManyCells, TooManyOutputs, TooLong, NoMemory}
-use Rattle.vw_emit_text.specs.Lines.{spaced_line, blif_model}
-use Rattle.vw_emit_text.specs.Names.{column_name, node_name, output_name, shown_name}
-use Rattle.vw_emit_text.specs.Nodes.{NodePort, node_inputs, node_items, node_outputs}
-use Rattle.vw_emit_text.specs.Outlets.{outlets}
+use Rattle.vw_emit_text.specs.Numbered.{emitting, spelled_board}
 use Rattle.vw_net.specs.declared.limits.TheConstants.{MOST_CELLS, MOST_DESIGN_OUTPUTS}
 use Rattle.vw_text.specs.declared.limits.TheConstants.{MOST_DESIGN_BYTES}
 
 -- ---- the text
 
-abbrev pub all_nodes : PlannedBoard → List ℕ
-all_nodes planned = range_with_len 0 (planned.board.chips + 1)
-
--- a port and the board's net, as a node is placed
-abbrev pub port_binding : NodePort → List ℕ
-port_binding port = port.name ++ codes "=" ++ port.net
-
-abbrev pub placed_line : PlannedBoard → ℕ → List ℕ
-placed_line planned node = spaced_line (codes ".subckt") (node_name node ∷ (map port_binding (node_inputs planned node) ++ map port_binding (node_outputs planned node)))
-
--- the first model: the design's columns are its inputs, and the design's outputs and latches its outputs
-abbrev pub board_model_lines : PlannedBoard → List (List ℕ)
-board_model_lines planned =
-    let flat = planned.ordered.flat in
-    blif_model (codes "board")
-    (map column_name (range_with_len 0 flat.inputs))
-    (map output_name (range_with_len 0 (length flat.outputs)) ++ map shown_name (range_with_len 0 (latch_count flat.cells)))
-    (map (placed_line planned) (all_nodes planned))
-
-abbrev pub node_model_lines : PlannedBoard → ℕ → List (List ℕ)
-node_model_lines planned node = blif_model (node_name node) (map (λ port. port.name) (node_inputs planned node)) (map (λ port. port.name) (node_outputs planned node)) (node_items planned node)
-
+-- the board's models in print
 unfoldable pub emitted_text : PlannedBoard → List ℕ
-emitted_text planned = lines_text (board_model_lines planned ++ flat_map (node_model_lines planned) (all_nodes planned))
+emitted_text planned = printed_by emitting (spelled_board planned)
 
 -- ---- how large it is
 
--- the cells of pins: one for each microcycle of their links' delays
-abbrev pub pin_cells : List Outlet → ℕ
-pin_cells list = sum_by (λ outlet. if outlet.number == 0 then outlet.hop.arrival - outlet.hop.at + 1 else 0) list
+-- the delay of a link, where a pin of it has users; and that for each used pin of the link
+abbrev pub used_delay : ℕ → List User → List ℕ
+used_delay delay [] = []
+used_delay delay (user ∷ others) = delay ∷ []
+
+abbrev pub pin_delays : PlannedBoard → Link → List ℕ
+pin_delays planned link = gather (λ pin. used_delay link.delay (users planned link pin)) link.width
+
+-- the cells of pins: one for each used pin and microcycle of its link's delay
+abbrev pub pin_cells : PlannedBoard → ℕ
+pin_cells planned = sum_by (λ delay. delay) (flat_map (pin_delays planned) planned.board.links)
 
 -- the cells of the sequencers; of gates, which have one, and latches, which have two; of hops, which have three; of pins; and
 -- of outputs
@@ -55,7 +41,7 @@ emitted_cells planned =
     (planned.board.chips + 1) * (planned.plan.period + 1)
     + (length planned.ordered.flat.cells + latch_count planned.ordered.flat.cells)
     + 3 * hop_count planned.plan.wires
-    + pin_cells (outlets planned)
+    + pin_cells planned
     + length planned.ordered.flat.outputs
 
 abbrev pub emitted_outputs : PlannedBoard → ℕ

@@ -1,7 +1,5 @@
-pub mod Names
-pub mod Lines
 pub mod Outlets
-pub mod Nodes
+pub mod Numbered
 pub mod Emitted
 pub mod Messages
 pub mod Steps

@@ -1,4 +1,4 @@
--- The hops of a plan by the pins by which they leave. Source: this project.
+-- The hops of a plan by the pins by which they leave, as the text is written from them. Source: this project.
 use Rattle.std.specs.Prelude.{◌==◌, ◌&&◌, ℕ, suc, Bool, false, not, List, [], ◌∷◌, ◌++◌, Option, Some, None, if◌then◌else◌}
 use Rattle.std.specs.Ordering.{is_lt, nat_cmp, ordering_then}
 use Rattle.std.specs.declared.cmp.Ordering.{Ordering}

@@ -1,45 +1,51 @@
 //! The sequencer of a node, its cells, its registers, and the outputs.
-ghost use Rattle.std.specs.Prelude.{◌≡◌, ◌≤◌, ◌++◌, ◌∷◌, ◌^◌, [], flat_map, map, codes, OnOk};
-ghost use Rattle.vw_text.specs.Physical.{lines_text};
-ghost use Rattle.vw_emit_text.specs.Lines.{start_word, blif_latch};
-ghost use Rattle.vw_emit_text.specs.Names.{latch_name, latch_next_name, stage_name};
-ghost use Rattle.vw_emit_text.specs.Nodes.{cell_items, gate_items, latch_items, latch_table, local_name, output_lines, register_line, register_lines, register_table, registers, sequencer};
-ghost use Rattle.vw_text.specs.Printed.{with_newline};
-ghost use Rattle.vw_emit_text.specs.Steps.{planned_by};
+ghost use Rattle.std.specs.Prelude.{◌≡◌, ◌≤◌, ◌++◌, ◌∷◌, ◌^◌, map, OnOk};
+ghost use Rattle.vw_emit_hardware.specs.Items.{gate_items, latch_items, sequencer};
+ghost use Rattle.vw_emit_hardware.specs.Locals.{gate};
+ghost use Rattle.vw_emit_hardware.specs.Names.{name_at};
+ghost use Rattle.vw_emit_hardware.specs.Tables.{cover_table};
+ghost use Rattle.vw_emit_names.specs.Spelled.{spelled};
+ghost use Rattle.vw_emit_text.specs.Steps.{caught_items, item_text, items_text, names_text, of_cells, planned_by, registers, results_from, stages_from};
 
 use crate::emitter::Emitter;
-use crate::local_names::push_local;
+use crate::items::{Item, push_item};
+use crate::local_names::name_at;
+use crate::names::{Name, push_name};
 use crate::numbered_hop::NumberedHop;
 use crate::ports::chip_at;
-use crate::rows::{push_cover, start_word};
-use crate::words::{push_one, push_two};
+use crate::rows::push_cover;
 use std::alloc::AllocError;
-use vw_net::{Cell, Init};
+use vw_net::{Cell, Cover, Init};
 
-/// Appends the line of the latch of one stage, which reads another stage.
-fn push_stage(text: &mut Vec<u8>, before: u64, stage: u64, value: u8) -> Result<(), AllocError>
-    ensures { OnOk result (text.new.items
-        ≡ text.old.items ++ with_newline (blif_latch (stage_name before) (stage_name stage) (value ∷ []))) }
+/// Appends so many stages of a sequencer, each of which reads the one before it.
+fn push_stages(text: &mut Vec<u8>, period: u64) -> Result<(), AllocError>
+    requires { period ≤ 2 ^ 62 }
+    ensures { OnOk result (text.new.items ≡ text.old.items ++ items_text (stages_from 0 period)) }
 {
-    text.extend_from_slice(b".latch")?;
-    push_one(text, b' ', b't', before)?;
-    push_one(text, b' ', b't', stage)?;
-    text.push(b' ')?;
-    text.push(value)?;
-    text.push(b'\n')?;
+    for before in 0..period {
+        let (from, to) = (Name::Moment(before), Name::Moment(before + 1));
+        push_item(text, Item::Register(from, to, Init::Zero))?;
+    }
     Ok(())
 }
 
 /// Appends the lines of a sequencer.
 pub(crate) fn push_sequencer(text: &mut Vec<u8>, period: u64) -> Result<(), AllocError>
     requires { period ≤ 2 ^ 62 }
-    ensures { OnOk result (text.new.items ≡ text.old.items ++ lines_text (sequencer period)) }
+    ensures { OnOk result (text.new.items ≡ text.old.items ++ items_text (sequencer period)) }
 {
-    push_stage(text, period, 0, b'1')?;
-    for before in 0..period {
-        push_stage(text, before, before + 1, b'0')?;
-    }
+    let (from, to) = (Name::Moment(period), Name::Moment(0));
+    push_item(text, Item::Register(from, to, Init::One))?;
+    push_stages(text, period)?;
     Ok(())
+}
+
+/// Appends, behind a space, the name of a net at a node.
+fn push_local(text: &mut Vec<u8>, emitter: &Emitter, node: u32, net: u32) -> Result<(), AllocError>
+    ensures { OnOk result (text.new.items
+        ≡ text.old.items ++ 32 ∷ spelled (name_at (planned_by emitter.now) node net)) }
+{
+    push_name(text, b' ', name_at(emitter, node, net))
 }
 
 /// Appends the names of nets at a node, each behind a space.
@@ -50,11 +56,31 @@ fn push_locals(
     nets: &[u32],
 ) -> Result<(), AllocError>
     ensures { OnOk result (text.new.items
-        ≡ text.old.items ++ flat_map (λ other. 32 ∷ other) (map (local_name (planned_by emitter.now) node) nets.now)) }
+        ≡ text.old.items ++ names_text (planned_by emitter.now) node nets.now) }
 {
     for net in nets {
         push_local(text, emitter, node, *net)?;
     }
+    Ok(())
+}
+
+/// Appends the table of a gate.
+fn push_gate_table(
+    text: &mut Vec<u8>,
+    emitter: &Emitter,
+    node: u32,
+    number: u64,
+    ins: &[u32],
+    cover: &Cover,
+) -> Result<(), AllocError>
+    ensures { OnOk result (text.new.items ≡ text.old.items
+        ++ item_text (cover_table (map (name_at (planned_by emitter.now) node) ins.now) (gate number) cover.now)) }
+{
+    text.extend_from_slice(b".names")?;
+    push_locals(text, emitter, node, ins)?;
+    push_name(text, b' ', Name::Gate(number))?;
+    text.push(b'\n')?;
+    push_cover(text, cover)?;
     Ok(())
 }
 
@@ -67,15 +93,11 @@ fn push_gate(
     cell: &Cell,
 ) -> Result<(), AllocError>
     ensures { OnOk result (text.new.items
-        ≡ text.old.items ++ lines_text (gate_items (planned_by emitter.now) node number cell.now)) }
+        ≡ text.old.items ++ items_text (gate_items (planned_by emitter.now) node number cell.now)) }
 {
     match cell {
         Cell::Gate { ins, cover } => {
-            text.extend_from_slice(b".names")?;
-            push_locals(text, emitter, node, ins.as_slice())?;
-            push_one(text, b' ', b'c', number as u64)?;
-            text.push(b'\n')?;
-            push_cover(text, cover)
+            push_gate_table(text, emitter, node, number as u64, ins.as_slice(), cover)
         }
         Cell::Latch { .. } => Ok(()),
     }
@@ -88,49 +110,14 @@ pub(crate) fn push_gates(
     node: u32,
     cells: &[Cell],
 ) -> Result<(), AllocError>
-    ensures { OnOk result (text.new.items
-        ≡ text.old.items ++ lines_text (cell_items (gate_items (planned_by emitter.now) node)
-        emitter.now.plan.now.chip_of node 0 cells.now)) }
+    ensures { OnOk result (text.new.items ≡ text.old.items
+        ++ items_text (of_cells (gate_items (planned_by emitter.now) node) emitter.now.plan.now.chip_of node 0 cells.now)) }
 {
     for (number, cell) in cells.iter().enumerate() {
         if chip_at(emitter.plan.chip_of(), number) == node {
             push_gate(text, emitter, node, number, cell)?;
         }
     }
-    Ok(())
-}
-
-/// Appends the table of a latch: in the last microcycle it takes its next value, else it keeps its own.
-fn push_latch_table(
-    text: &mut Vec<u8>,
-    emitter: &Emitter,
-    node: u32,
-    number: u64,
-    d: u32,
-) -> Result<(), AllocError>
-    ensures { OnOk result (text.new.items
-        ≡ text.old.items ++ lines_text (latch_table (planned_by emitter.now) node number d)) }
-{
-    text.extend_from_slice(b".names")?;
-    push_one(text, b' ', b't', emitter.plan.period())?;
-    push_local(text, emitter, node, d)?;
-    push_one(text, b' ', b'q', number)?;
-    push_one(text, b' ', b'l', number)?;
-    text.extend_from_slice(b"\n11- 1\n0-1 1\n")?;
-    Ok(())
-}
-
-/// Appends the line of a latch.
-fn push_latch_line(text: &mut Vec<u8>, number: u64, init: Init) -> Result<(), AllocError>
-    ensures { OnOk result (text.new.items
-        ≡ text.old.items ++ lines_text (blif_latch (latch_next_name number) (latch_name number) (start_word init) ∷ [])) }
-{
-    text.extend_from_slice(b".latch")?;
-    push_one(text, b' ', b'l', number)?;
-    push_one(text, b' ', b'q', number)?;
-    text.push(b' ')?;
-    text.extend_from_slice(start_word(init))?;
-    text.push(b'\n')?;
     Ok(())
 }
 
@@ -143,14 +130,16 @@ fn push_latch(
     cell: &Cell,
 ) -> Result<(), AllocError>
     ensures { OnOk result (text.new.items
-        ≡ text.old.items ++ lines_text (latch_items (planned_by emitter.now) node number cell.now)) }
+        ≡ text.old.items ++ items_text (latch_items (planned_by emitter.now) node number cell.now)) }
 {
     match cell {
         Cell::Gate { .. } => Ok(()),
         Cell::Latch { d, init } => {
-            push_latch_table(text, emitter, node, number as u64, *d)?;
-            push_latch_line(text, number as u64, *init)?;
-            Ok(())
+            let (own, next) = (Name::Kept(number as u64), Name::Coming(number as u64));
+            let last = Name::Moment(emitter.plan.period());
+            let from = name_at(emitter, node, *d);
+            push_item(text, Item::Choice(last, from, own, next))?;
+            push_item(text, Item::Register(next, own, *init))
         }
     }
 }
@@ -162,9 +151,8 @@ pub(crate) fn push_latches(
     node: u32,
     cells: &[Cell],
 ) -> Result<(), AllocError>
-    ensures { OnOk result (text.new.items
-        ≡ text.old.items ++ lines_text (cell_items (latch_items (planned_by emitter.now) node)
-        emitter.now.plan.now.chip_of node 0 cells.now)) }
+    ensures { OnOk result (text.new.items ≡ text.old.items
+        ++ items_text (of_cells (latch_items (planned_by emitter.now) node) emitter.now.plan.now.chip_of node 0 cells.now)) }
 {
     for (number, cell) in cells.iter().enumerate() {
         if chip_at(emitter.plan.chip_of(), number) == node {
@@ -174,40 +162,18 @@ pub(crate) fn push_latches(
     Ok(())
 }
 
-/// Appends the table of the register of a hop.
-fn push_register_table(text: &mut Vec<u8>, hop: &NumberedHop) -> Result<(), AllocError>
-    ensures { OnOk result (text.new.items
-        ≡ text.old.items ++ lines_text (register_table hop.now)) }
-{
-    text.extend_from_slice(b".names")?;
-    push_one(text, b' ', b't', hop.arrival)?;
-    push_two(text, b' ', b'i', u64::from(hop.link), u64::from(hop.pin))?;
-    push_two(text, b' ', b'r', hop.wire, hop.hop)?;
-    push_two(text, b' ', b'n', hop.wire, hop.hop)?;
-    text.extend_from_slice(b"\n11- 1\n0-1 1\n")?;
-    Ok(())
-}
-
-/// Appends the line of the register of a hop.
-fn push_register_line(text: &mut Vec<u8>, hop: &NumberedHop) -> Result<(), AllocError>
-    ensures { OnOk result (text.new.items
-        ≡ text.old.items ++ lines_text (register_line hop.now ∷ [])) }
-{
-    text.extend_from_slice(b".latch")?;
-    push_two(text, b' ', b'n', hop.wire, hop.hop)?;
-    push_two(text, b' ', b'r', hop.wire, hop.hop)?;
-    text.extend_from_slice(b" 0\n")?;
-    Ok(())
-}
-
-/// Appends the lines of the register of a hop.
+/// Appends the lines of the register of a hop: it takes the pin's bit in the microcycle of the arrival.
 fn push_register(text: &mut Vec<u8>, hop: &NumberedHop) -> Result<(), AllocError>
-    ensures { OnOk result (text.new.items
-        ≡ text.old.items ++ lines_text (register_lines hop.now)) }
+    ensures { OnOk result (text.new.items ≡ text.old.items ++ items_text (caught_items hop.now)) }
 {
-    push_register_table(text, hop)?;
-    push_register_line(text, hop)?;
-    Ok(())
+    let pin = Name::PinIn(u64::from(hop.link), u64::from(hop.pin));
+    let own = Name::Held(hop.wire, hop.hop);
+    let next = Name::Caught(hop.wire, hop.hop);
+    push_item(
+        text,
+        Item::Choice(Name::Moment(hop.arrival), pin, own, next),
+    )?;
+    push_item(text, Item::Register(next, own, Init::Zero))
 }
 
 /// Appends the lines of the registers of a node.
@@ -217,7 +183,7 @@ pub(crate) fn push_registers(
     hops: &[NumberedHop],
 ) -> Result<(), AllocError>
     ensures { OnOk result (text.new.items
-        ≡ text.old.items ++ lines_text (registers node hops.now)) }
+        ≡ text.old.items ++ items_text (registers node hops.now)) }
 {
     for hop in hops {
         if hop.to == node {
@@ -227,34 +193,18 @@ pub(crate) fn push_registers(
     Ok(())
 }
 
-/// Appends the lines of an output.
-fn push_output(
-    text: &mut Vec<u8>,
-    emitter: &Emitter,
-    number: usize,
-    net: u32,
-) -> Result<(), AllocError>
-    ensures { OnOk result (text.new.items
-        ≡ text.old.items ++ lines_text (output_lines (planned_by emitter.now) number (net ∷ []))) }
-{
-    text.extend_from_slice(b".names")?;
-    push_local(text, emitter, 0, net)?;
-    push_one(text, b' ', b'y', number as u64)?;
-    text.extend_from_slice(b"\n1 1\n")?;
-    Ok(())
-}
-
 /// Appends the lines of the outputs.
-pub(crate) fn push_output_lines(
+pub(crate) fn push_results(
     text: &mut Vec<u8>,
     emitter: &Emitter,
     nets: &[u32],
 ) -> Result<(), AllocError>
     ensures { OnOk result (text.new.items
-        ≡ text.old.items ++ lines_text (output_lines (planned_by emitter.now) 0 nets.now)) }
+        ≡ text.old.items ++ items_text (results_from (planned_by emitter.now) 0 nets.now)) }
 {
     for (number, net) in nets.iter().enumerate() {
-        push_output(text, emitter, number, *net)?;
+        let from = name_at(emitter, 0, *net);
+        push_item(text, Item::Pass(from, Name::Output(number as u64)))?;
     }
     Ok(())
 }

@@ -2,7 +2,7 @@
 ghost use Rattle.std.specs.Prelude.{◌≡◌, ◌<◌, ◌^◌, IfOk, IfErr};
 ghost use Rattle.vw_plan.specs.PlannedBoard.{planned_board};
 ghost use Rattle.vw_emit_text.specs.Emitted.{FitsDesigns, IsEmitFault, emitted_cells, emitted_outputs, emitted_text, pin_cells};
-ghost use Rattle.vw_emit_text.specs.Steps.{planned_by};
+ghost use Rattle.vw_emit_text.specs.Steps.{outlet_cells, planned_by};
 
 use crate::emitter::Emitter;
 use crate::fault::EmitFault;
@@ -15,9 +15,9 @@ use vw_plan::Checked;
 use vw_ready::{LinkTable, wire_table};
 use vw_text::MOST_DESIGN_BYTES;
 
-/// The cells of the pins: one for each microcycle of their delays.
-fn pin_cells(outlets: &[Outlet]) -> u128
-    ensures value { result ≡ pin_cells outlets.now }
+/// The cells of the pins, counted at the first hop of each.
+fn outlet_cells(outlets: &[Outlet]) -> u128
+    ensures value { result ≡ outlet_cells outlets.now }
     ensures low { result < 2 ^ 124 }
 {
     let mut cells = 0u128;
@@ -27,6 +27,14 @@ fn pin_cells(outlets: &[Outlet]) -> u128
         }
     }
     cells
+}
+
+/// The cells of the pins: one for each used pin and microcycle of its link's delay.
+fn pin_cells(emitter: &Emitter) -> u128
+    ensures value { result ≡ pin_cells (planned_by emitter.now) }
+    ensures low { result < 2 ^ 124 }
+{
+    outlet_cells(emitter.outlets)
 }
 
 /// The number of cells of the emitted board.
@@ -40,7 +48,7 @@ fn emitted_cells(emitter: &Emitter) -> u128
     let latches = u128::from(latch_count(flat.cells()));
     let hops = u128::from(emitter.plan.hops());
     let outputs = flat.outputs().len() as u128;
-    nodes * stages + (cells + latches) + 3 * hops + pin_cells(emitter.outlets) + outputs
+    nodes * stages + (cells + latches) + 3 * hops + pin_cells(emitter) + outputs
 }
 
 /// The number of outputs of the emitted board.

@@ -3,6 +3,8 @@ ghost use Rattle.std.specs.Prelude.{◌≡◌, None};
 ghost use Rattle.vw_ready.specs.Pairs.{HasPairs};
 ghost use Rattle.vw_ready.specs.Wires.{wire_pairs};
 ghost use Rattle.vw_net.specs.Sorting.{sorted};
+ghost use Rattle.vw_plan.specs.PlannedBoard.{planned_board};
+ghost use Rattle.vw_plan.specs.Sound.{IsSound};
 ghost use Rattle.vw_emit_text.specs.Outlets.{hops_of_wires, leaves_before, outlets_behind};
 
 use crate::numbered_hop::NumberedHop;
@@ -23,6 +25,7 @@ pub struct Emitter<'a> {
     pub hops: &'a [NumberedHop],
     /// All hops, by the pins by which they leave.
     pub outlets: &'a [Outlet],
+    ghost sound: { IsSound (planned_board ordered.now board.now plan.now) },
     ghost has_wires: { HasPairs (wire_pairs plan.now.wires) wires.now.places },
     ghost hops_are: { hops.now ≡ hops_of_wires board.now.links 0 plan.now.wires },
     ghost outlets_are: { outlets.now ≡ outlets_behind None 0 (sorted leaves_before hops.now) },

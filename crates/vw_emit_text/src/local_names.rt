@@ -1,28 +1,27 @@
 //! What nets are called at nodes.
-ghost use Rattle.std.specs.Prelude.{◌≡◌, ◌++◌, ◌∷◌, OnOk};
+ghost use Rattle.std.specs.Prelude.{◌≡◌};
+ghost use Rattle.vw_emit_hardware.specs.Names.{brought_name, name_at, own_name};
 ghost use Rattle.vw_plan.specs.PlannedBoard.{home};
-ghost use Rattle.vw_emit_text.specs.Nodes.{brought_name, home_name, last_hop, local_name, sent_name};
-ghost use Rattle.vw_emit_text.specs.Steps.{planned_by};
+ghost use Rattle.vw_emit_text.specs.Steps.{last_held, last_hop, local_of, local_sent, planned_by};
 
 use crate::emitter::Emitter;
+use crate::names::Name;
 use crate::numbered_hop::NumberedHop;
-use crate::words::{push_one, push_two};
-use std::alloc::AllocError;
 use vw_net::{Cell, Flat};
 use vw_plan::Wire;
 
-/// Appends, behind a space, the name of a net at its own node.
-fn push_home(text: &mut Vec<u8>, flat: &Flat, net: u32) -> Result<(), AllocError>
-    ensures { OnOk result (text.new.items ≡ text.old.items ++ 32 ∷ home_name flat.now net) }
+/// The name of a net at its own node.
+fn own_name(flat: &Flat, net: u32) -> Name
+    ensures { local_of result ≡ own_name flat.now net }
 {
     if net < flat.inputs() {
-        return push_one(text, b' ', b'x', u64::from(net));
+        return Name::Column(u64::from(net));
     }
     let cell = net - flat.inputs();
     match flat.cells().get(cell as usize) {
-        Some(Cell::Gate { .. }) => push_one(text, b' ', b'c', u64::from(cell)),
-        Some(Cell::Latch { .. }) => push_one(text, b' ', b'q', u64::from(cell)),
-        None => push_one(text, b' ', b'c', u64::from(cell)),
+        Some(Cell::Gate { .. }) => Name::Gate(u64::from(cell)),
+        Some(Cell::Latch { .. }) => Name::Kept(u64::from(cell)),
+        None => Name::Gate(u64::from(cell)),
     }
 }
 
@@ -50,54 +49,41 @@ fn last_hop(wires: &[Wire], number: usize) -> u64
     }
 }
 
-/// Appends, behind a space, the name of a net at a node that a wire brings it to.
-fn push_brought(
-    text: &mut Vec<u8>,
-    emitter: &Emitter,
-    node: u32,
-    net: u32,
-) -> Result<(), AllocError>
-    ensures { OnOk result (text.new.items
-        ≡ text.old.items ++ 32 ∷ brought_name (planned_by emitter.now) node net) }
+/// The register of the last hop of a wire, where there is one.
+fn last_held(wires: &[Wire], found: Option<usize>) -> Name
+    ensures { local_of result ≡ last_held found wires.now }
 {
-    match emitter.wires.first(net, node) {
-        Some(number) => {
-            let last = last_hop(emitter.plan.wires(), number);
-            push_two(text, b' ', b'r', number as u64, last)
-        }
-        None => push_two(text, b' ', b'r', 0, 0),
+    match found {
+        Some(number) => Name::Held(number as u64, last_hop(wires, number)),
+        None => Name::Held(0, 0),
     }
 }
 
-/// Appends, behind a space, the name of a net at a node.
-pub(crate) fn push_local(
-    text: &mut Vec<u8>,
-    emitter: &Emitter,
-    node: u32,
-    net: u32,
-) -> Result<(), AllocError>
-    ensures { OnOk result (text.new.items
-        ≡ text.old.items ++ 32 ∷ local_name (planned_by emitter.now) node net) }
+/// The name of a net at a node that a wire brings it to.
+fn brought_name(emitter: &Emitter, node: u32, net: u32) -> Name
+    ensures { local_of result ≡ brought_name (planned_by emitter.now) node net }
+{
+    last_held(emitter.plan.wires(), emitter.wires.first(net, node))
+}
+
+/// The name of a net at a node.
+pub(crate) fn name_at(emitter: &Emitter, node: u32, net: u32) -> Name
+    ensures { local_of result ≡ name_at (planned_by emitter.now) node net }
 {
     if home(emitter, net) == node {
-        push_home(text, emitter.ordered.flat(), net)
+        own_name(emitter.ordered.flat(), net)
     } else {
-        push_brought(text, emitter, node, net)
+        brought_name(emitter, node, net)
     }
 }
 
-/// Appends, behind a space, the name of what a hop sends, at the node that it leaves.
-pub(crate) fn push_sent(
-    text: &mut Vec<u8>,
-    emitter: &Emitter,
-    hop: &NumberedHop,
-) -> Result<(), AllocError>
-    ensures { OnOk result (text.new.items
-        ≡ text.old.items ++ 32 ∷ sent_name (planned_by emitter.now) hop.now) }
+/// The name of what a hop sends, at the node that it leaves.
+pub(crate) fn sent_name(emitter: &Emitter, hop: &NumberedHop) -> Name
+    ensures { local_of result ≡ local_sent (planned_by emitter.now) hop.now }
 {
     if hop.hop == 0 {
-        push_local(text, emitter, hop.from, hop.net)
+        name_at(emitter, hop.from, hop.net)
     } else {
-        push_two(text, b' ', b'r', hop.wire, hop.hop - 1)
+        Name::Held(hop.wire, hop.hop - 1)
     }
 }

@@ -2,15 +2,16 @@
 ghost use Rattle.std.specs.Prelude.{◌≡◌, ◌<◌, ◌++◌, ◌∷◌, [], length, replicate, OnOk};
 ghost use Rattle.vw_net.specs.declared.cover.Mark.TheVariants.{Any};
 ghost use Rattle.vw_text.specs.Physical.{lines_text};
-ghost use Rattle.vw_emit_text.specs.Lines.{cover_lines, start_word, mark_code, off_lines, row_line, row_lines};
+ghost use Rattle.vw_blif.specs.Printed.{init_word, mark_byte};
+ghost use Rattle.vw_emit_text.specs.Numbered.{emitting};
 ghost use Rattle.vw_text.specs.Printed.{with_newline};
-ghost use Rattle.vw_emit_text.specs.Steps.{marks_text, row_marks};
+ghost use Rattle.vw_emit_text.specs.Steps.{cover_lines, marks_text, off_lines, row_line, row_lines, row_marks};
 
 use std::alloc::AllocError;
 use vw_net::{Cover, Init, Mark};
 
-fn mark_code(mark: Mark) -> u8
-    ensures { result ≡ mark_code mark }
+fn mark_byte(mark: Mark) -> u8
+    ensures { result ≡ mark_byte mark }
 {
     match mark {
         Mark::Zero => b'0',
@@ -26,7 +27,7 @@ fn push_marks(text: &mut Vec<u8>, cover: &Cover, row: u64) -> Result<(), AllocEr
         ≡ text.old.items ++ marks_text (row_marks cover.now row)) }
 {
     for input in 0..cover.inputs() {
-        text.push(mark_code(cover.mark(row, input)))?;
+        text.push(mark_byte(cover.mark(row, input)))?;
     }
     Ok(())
 }
@@ -93,9 +94,9 @@ pub(crate) fn push_cover(text: &mut Vec<u8>, cover: &Cover) -> Result<(), AllocE
     push_rows(text, cover, b'0')
 }
 
-/// What a latch starts at.
+/// What a register starts at.
 pub(crate) fn start_word(init: Init) -> &'static [u8]
-    ensures { result.now ≡ start_word init }
+    ensures { result.now ≡ init_word emitting init }
 {
     match init {
         Init::Zero => b"0",

@@ -1,6 +1,6 @@
-use Rattle.std.proofs.Common.{◌<◌, ◌+◌, ◌++◌, ◌∷◌, [], ℕ, List, arith}
-use Rattle.vw_emit_text.specs.Emitted.{placed_line}
-use Rattle.vw_emit_text.specs.Steps.{planned_by}
+use Rattle.std.proofs.Common.{◌<◌, ◌+◌, arith}
+use Rattle.vw_emit_names.specs.Boards.{placed_node}
+use Rattle.vw_emit_text.specs.Steps.{plain_item_text, planned_by}
 use Rattle.vw_text.proofs.WrittenPieces.{mapped_more}
 use Rattle.vw_emit_text.proofs.models.push_all_placed.Goals as goal
 
@@ -8,4 +8,4 @@ pub loop-node-preserved : goal.loop-node-preserved
 loop-node-preserved c =
     let planned = planned_by c.args.emitter.now in
     let within : c.loop-node.node < planned.board.chips + 1 = omega (arith, c.loop-node-test.true, c.chips-node-end.ensures) in
-    mapped_more (λ (line : List ℕ). line ++ 10 ∷ []) (placed_line planned) c.loop-node.node (planned.board.chips + 1) c.loop-node.text.items c.push_placed.new.text.items _ within c.in_ok-push_placed.ensures c.loop-node.invariant
+    mapped_more plain_item_text (placed_node planned) c.loop-node.node (planned.board.chips + 1) c.loop-node.text.items c.push_placed.new.text.items _ within c.in_ok-push_placed.ensures c.loop-node.invariant

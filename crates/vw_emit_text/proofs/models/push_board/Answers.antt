@@ -1,10 +1,12 @@
-use Rattle.std.proofs.Common.{◌++◌, ◌∷◌, [], ◌∙◌, ℕ, false, List, length, map, ap}
+use Rattle.std.proofs.Common.{◌++◌, ◌∷◌, [], ◌∙◌, ℕ, List, length, map, ap}
 use Rattle.std.specs.Prelude.{codes}
+use Rattle.std.specs.List.{flat_map}
 use Rattle.vw_net.specs.Cells.{latch_count}
-use Rattle.vw_text.specs.Physical.{lines_text}
-use Rattle.vw_emit_text.specs.Emitted.{all_nodes, placed_line}
-use Rattle.vw_emit_text.specs.Steps.{numbered_ports, planned_by, ports_text}
-use Rattle.vw_emit_text.proofs.ModelLines.{board_pieces}
+use Rattle.vw_emit_names.specs.Boards.{all_nodes, placed_node}
+use Rattle.vw_emit_text.specs.Steps.{numbered_ports, plain_item_text, planned_by, ports_text}
+use Rattle.vw_emit_text.specs.declared.ports.Kind.TheVariants.{Columns, Results, Shown}
+use Rattle.vw_emit_text.specs.declared.ports.Listing.TheVariants.{Ports}
+use Rattle.vw_emit_text.proofs.PrintedModels.{board_pieces}
 use Rattle.vw_text.proofs.WrittenPieces.{grown}
 use Rattle.vw_emit_text.proofs.models.push_board.Goals as goal
 
@@ -14,8 +16,8 @@ returns c =
     let flat = planned.ordered.flat in
     let old = c.args.text.now.items in
     grown old (codes ".model board\n.inputs")
-    (ports_text false (numbered_ports 120 flat.inputs) ∷ codes "\n.outputs" ∷ ports_text false (numbered_ports 121 (length flat.outputs)) ∷ ports_text false (numbered_ports 115 (latch_count flat.cells)) ∷ (10 ∷ [])
-    ∷ lines_text (map (placed_line planned) (all_nodes planned)) ∷ codes ".end\n" ∷ [])
+    (ports_text Ports (numbered_ports Columns 0 flat.inputs) ∷ codes "\n.outputs" ∷ ports_text Ports (numbered_ports Results 0 (length flat.outputs)) ∷ ports_text Ports (numbered_ports Shown 0 (latch_count flat.cells)) ∷ (10 ∷ [])
+    ∷ flat_map plain_item_text (map (placed_node planned) (all_nodes planned)) ∷ codes ".end\n" ∷ [])
     c.extend_from_slice-3.new.self.items (
       _,
       c.in_ok-extend_from_slice.ensures.items,

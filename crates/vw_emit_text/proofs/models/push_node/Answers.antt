@@ -1,20 +1,21 @@
-use Rattle.std.proofs.Common.{◌++◌, ◌∷◌, [], ◌∙◌, ℕ, false, List, ap}
+use Rattle.std.proofs.Common.{◌++◌, ◌∷◌, [], ◌∙◌, ℕ, List, ap}
 use Rattle.std.specs.Prelude.{codes}
 use Rattle.std.specs.Fmt.{decimal}
-use Rattle.vw_text.specs.Physical.{lines_text}
-use Rattle.vw_emit_text.specs.Nodes.{node_inputs, node_items, node_outputs}
-use Rattle.vw_emit_text.specs.Steps.{planned_by, ports_text}
-use Rattle.vw_emit_text.proofs.ModelLines.{node_pieces}
+use Rattle.vw_emit_hardware.specs.Items.{node_items}
+use Rattle.vw_emit_text.specs.Steps.{inputs_of, items_text, outputs_of, planned_by, ports_text}
+use Rattle.vw_emit_text.specs.declared.ports.Listing.TheVariants.{Ports}
+use Rattle.vw_emit_text.proofs.PrintedModels.{node_pieces}
 use Rattle.vw_text.proofs.WrittenPieces.{grown}
 use Rattle.vw_emit_text.proofs.models.push_node.Goals as goal
 
 pub returns : goal.returns
 returns c =
-    let planned = planned_by c.args.emitter.now in
+    let emitter = c.args.emitter.now in
+    let planned = planned_by emitter in
     let node = c.args.node in
     let old = c.args.text.now.items in
     grown old (codes ".model node")
-    (decimal node ∷ codes "\n.inputs" ∷ ports_text false (node_inputs planned node) ∷ codes "\n.outputs" ∷ ports_text false (node_outputs planned node) ∷ (10 ∷ []) ∷ lines_text (node_items planned node) ∷ codes ".end\n" ∷ [])
+    (decimal node ∷ codes "\n.inputs" ∷ ports_text Ports (inputs_of planned node) ∷ codes "\n.outputs" ∷ ports_text Ports (outputs_of planned node) ∷ (10 ∷ []) ∷ items_text (node_items planned node) ∷ codes ".end\n" ∷ [])
     c.extend_from_slice-4.new.self.items (
       _,
       c.in_ok-extend_from_slice.ensures.items,
@@ -36,4 +37,4 @@ returns c =
         ),
       ),
     )
-    ∙ ap (λ (written : List ℕ). old ++ written) (node_pieces planned node)
+    ∙ ap (λ (written : List ℕ). old ++ written) (node_pieces planned emitter.sound node)

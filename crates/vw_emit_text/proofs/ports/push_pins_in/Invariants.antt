@@ -1,8 +1,7 @@
 -- what is written, and the ports that are left
 use Rattle.std.proofs.Common.{◌≡◌, ◌++◌, drop}
-use Rattle.vw_emit_text.specs.Nodes.{ports_in}
-use Rattle.vw_emit_text.specs.Steps.{ports_text}
+use Rattle.vw_emit_text.specs.Steps.{ports_in, ports_text}
 use Rattle.vw_emit_text.proofs.ports.push_pins_in.Given as goal
 
 abbrev pub invariant-loop-outlet : goal.invariant-loop-outlet
-invariant-loop-outlet l = l.text.items ++ ports_text l.bound (ports_in l.node (drop l.outlet-index l.outlets)) ≡ l.initial.text.items ++ ports_text l.bound (ports_in l.node l.outlets)
+invariant-loop-outlet l = l.text.items ++ ports_text l.listing (ports_in l.node (drop l.outlet-index l.outlets)) ≡ l.initial.text.items ++ ports_text l.listing (ports_in l.node l.outlets)

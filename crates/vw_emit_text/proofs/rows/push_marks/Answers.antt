@@ -7,4 +7,4 @@ pub loop-input-preserved : goal.loop-input-preserved
 loop-input-preserved c =
     let written = c.loop-input.text.items in
     marks_more c.args.cover.now c.args.row c.requires written c.push.new.self.items _ c.loop-input.input c.mark.result (omega (arith, c.loop-input-test.true, c.inputs-input-end.ensures)) c.mark.ensures
-    (c.in_ok-push.ensures.items ∙ ap (λ (code : ℕ). written ++ code ∷ []) c.mark_code.ensures) c.loop-input.invariant
+    (c.in_ok-push.ensures.items ∙ ap (λ (code : ℕ). written ++ code ∷ []) c.mark_byte.ensures) c.loop-input.invariant

@@ -1,0 +1,12 @@
+pub mod PrintedText
+pub mod PlainModels
+pub mod PlainWords
+pub mod PlainItems
+pub mod PlainBoards
+pub mod SpelledDesigns
+pub mod BoardDesigns
+pub mod Totals
+pub mod CellTotals
+pub mod PortTotals
+pub mod SmallBoards
+pub mod WorkedLines
