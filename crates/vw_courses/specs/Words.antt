@@ -54,9 +54,9 @@ unknown_given settings = bit_given unknown_setting false settings
 abbrev pub probes_given : List (List ℕ) → List (List ℕ)
 probes_given settings = take 64 (names_given probe_setting settings)
 
--- where no word says how many, there are four
+-- where no word says how many, there are four; the form lets no other number through than 1 to 64
 abbrev pub workers_given : List (List ℕ) → ℕ
-workers_given settings = number_given workers_setting 4 settings
+workers_given settings = max 1 (number_given workers_setting 4 settings)
 
 -- the number of cells that a word spells: the form lets no other number through than 1 to 20000
 abbrev pub cells_given : List ℕ → ℕ
@@ -194,7 +194,15 @@ needs_runtime (demo cells workers) = ltb 1 workers
 needs_runtime (grade design stimulus workers unknown) = true
 needs_runtime (save design board stimulus given workers unknown) = true
 needs_runtime (resume design board state stimulus given workers) = true
-needs_runtime _ = false
+needs_runtime (sim design stimulus unknown probes) = false
+needs_runtime (wave design stimulus unknown probes) = false
+needs_runtime (nets design probes) = false
+needs_runtime (check design board given probes) = false
+needs_runtime (plan design board chips probes) = false
+needs_runtime (emit design board given) = false
+needs_runtime help = false
+needs_runtime version = false
+needs_runtime (nothing place) = false
 
 -- whether a command runs a board with several workers, whose words go over links
 abbrev pub uses_links : Spelled → Bool
@@ -202,4 +210,13 @@ uses_links (run design board stimulus given workers unknown probes) = ltb 1 work
 uses_links (demo cells workers) = ltb 1 workers
 uses_links (save design board stimulus given workers unknown) = ltb 1 workers
 uses_links (resume design board state stimulus given workers) = ltb 1 workers
-uses_links _ = false
+uses_links (sim design stimulus unknown probes) = false
+uses_links (wave design stimulus unknown probes) = false
+uses_links (grade design stimulus workers unknown) = false
+uses_links (nets design probes) = false
+uses_links (check design board given probes) = false
+uses_links (plan design board chips probes) = false
+uses_links (emit design board given) = false
+uses_links help = false
+uses_links version = false
+uses_links (nothing place) = false

@@ -2,11 +2,13 @@
 //! which it refuses, and what it writes. In the field: a grammar of command lines, and a specification of each command.
 #![tactic(auto)]
 
+mod command;
 mod forms;
 mod size;
 mod vocabulary;
 mod words;
 
+pub use command::{Command, PlainCommand, RunWords, RuntimeCommand, Several};
 pub use size::Size;
 pub use vocabulary::{File, Reason, Unfinished};
-pub use words::{Command, command_of, probes_of};
+pub use words::{command_of, probes_of};

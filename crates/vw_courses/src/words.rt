@@ -1,10 +1,12 @@
 ghost use Rattle.std.specs.Prelude.{◌≡◌, ◌≤◌, IfOk, length, map, option_and_then, option_map, take};
+ghost use Rattle.std.specs.Option.{option_map_or};
 ghost use Rattle.vw_courses.specs.Words.{spelled_as, spelled_by, found_verb, sim_of, wave_of, grade_of, nets_of, check_of, plan_of, run_of, save_of, resume_of, emit_of, demo_of, cells_given};
-ghost use Rattle.vw_courses.specs.Words.{plan_setting, probes_given, run as spelled_run, unknown_given, workers_given};
+ghost use Rattle.vw_courses.specs.Words.{plan_setting, demo as spelled_demo, probes_given, run as spelled_run, unknown_given, workers_given};
 ghost use Rattle.vw_courses.specs.declared.forms.TheConstants.{MOST_PROBES};
 ghost use Rattle.vw_courses.specs.Steps.Commands.{command_form, command_view};
 ghost use Rattle.vw_words.specs.Values.{name_given};
 
+use crate::command::{Command, PlainCommand, RunWords, RuntimeCommand, Several};
 use crate::forms::{
     CHIPS, COMMANDS, DEFAULT_WORKERS, MOST_CELLS, MOST_PROBES, PLAN, PROBE, UNKNOWN, Verb, WORKERS,
 };
@@ -13,132 +15,22 @@ use std::alloc::{AllocError, Global};
 use vw_outside::Name;
 use vw_words::{Entry, Names, first_wrong, number_or_zero};
 
-/// What words spell: a command, with the names of its files and its settings, or none.
-#[derive(Drop)]
-pub enum Command<'a> {
-    /// Runs a design over a stimulus, and writes its trace.
-    Sim {
-        design: &'a Name,
-        stimulus: &'a Name,
-        /// The value that free latches start at.
-        unknown: bool,
-        /// The nets that are watched.
-        probes: Names<'a>,
-    },
-    /// Runs a design over a stimulus, and writes its wave.
-    Wave {
-        design: &'a Name,
-        stimulus: &'a Name,
-        /// The value that free latches start at.
-        unknown: bool,
-        /// The nets that are watched.
-        probes: Names<'a>,
-    },
-    /// Grades a stimulus: writes which stuck nets of a design it doesn't reveal.
-    Grade {
-        design: &'a Name,
-        stimulus: &'a Name,
-        /// How many workers grade.
-        workers: u64,
-        /// The value that free latches start at.
-        unknown: bool,
-    },
-    /// Writes the netlist of a design.
-    Nets {
-        design: &'a Name,
-        /// The nets that are watched.
-        probes: Names<'a>,
-    },
-    /// Checks a plan of a design on a board, and writes its size.
-    Check {
-        design: &'a Name,
-        board: &'a Name,
-        /// The name of the plan.
-        plan: &'a [u8],
-        /// The nets that are watched.
-        probes: Names<'a>,
-    },
-    /// Makes a plan of a design on a board, and writes its text.
-    Plan {
-        design: &'a Name,
-        board: &'a Name,
-        /// The name of the chips of the cells, where they are given.
-        chips: Option<&'a [u8]>,
-        /// The nets that are watched.
-        probes: Names<'a>,
-    },
-    /// Runs a design on a board over a stimulus, and writes its trace.
-    Run {
-        design: &'a Name,
-        board: &'a Name,
-        stimulus: &'a Name,
-        /// The name of the plan, where one is given.
-        plan: Option<&'a [u8]>,
-        /// How many workers run the nodes of the board.
-        workers: u64,
-        /// The value that free latches start at.
-        unknown: bool,
-        /// The nets that are watched.
-        probes: Names<'a>,
-    },
-    /// Runs a design on a board over a stimulus, and writes the state that it comes to.
-    Save {
-        design: &'a Name,
-        board: &'a Name,
-        stimulus: &'a Name,
-        /// The name of the plan, where one is given.
-        plan: Option<&'a [u8]>,
-        /// How many workers run the nodes of the board.
-        workers: u64,
-        /// The value that free latches start at.
-        unknown: bool,
-    },
-    /// Runs a design on a board over a stimulus from a state on, and writes its trace. Each latch starts as the state has
-    /// it.
-    Resume {
-        design: &'a Name,
-        board: &'a Name,
-        state: &'a Name,
-        stimulus: &'a Name,
-        /// The name of the plan, where one is given.
-        plan: Option<&'a [u8]>,
-        /// How many workers run the nodes of the board.
-        workers: u64,
-    },
-    /// Writes a planned board as a design.
-    Emit {
-        design: &'a Name,
-        board: &'a Name,
-        /// The name of the plan, where one is given.
-        plan: Option<&'a [u8]>,
-    },
-    /// Runs a generated design on a generated board, and writes a summary of its trace.
-    Demo {
-        size: Size,
-        /// How many workers run the nodes of the board.
-        workers: u64,
-    },
-    /// Writes how the program is called.
-    Help,
-    /// Writes the version of the program.
-    Version,
-    /// No command; the number of the first wrong word, from 1.
-    Nothing(u64),
+/// How many workers the settings ask for. The form of the words lets no other number through than 1 to 64.
+fn workers_in(settings: &[Name]) -> u64
+    ensures { result ≡ workers_given settings.now }
+{
+    WORKERS.number(settings, DEFAULT_WORKERS).max(1)
 }
 
-impl<'a> Command<'a> {
-    ghost use Rattle.vw_courses.specs.Steps.Commands.{command_view};
-    ghost use Rattle.vw_courses.specs.Words.{needs_runtime};
-
-    /// Whether it needs a runtime: what runs a board with several workers does, and each grading, saving and resumption.
-    pub fn needs_runtime(&self) -> bool
-        ensures { result ≡ needs_runtime (command_view self.now) }
-    {
-        match self {
-            Command::Run { workers, .. } | Command::Demo { workers, .. } => *workers > 1,
-            Command::Grade { .. } | Command::Save { .. } | Command::Resume { .. } => true,
-            _ => false,
-        }
+/// These workers, where they are several.
+fn several_in(settings: &[Name]) -> Option<Several>
+    ensures { option_map_or (λ several. several.workers) result 1 ≡ workers_given settings.now }
+{
+    let workers = workers_in(settings);
+    if workers > 1 {
+        Some(Several { workers })
+    } else {
+        None
     }
 }
 
@@ -147,12 +39,12 @@ fn sim_of(words: &[Name]) -> Option<Command<'_>>
     ensures { option_map command_view result ≡ sim_of words.now }
 {
     match words {
-        [_, design, stimulus, settings @ ..] => Some(Command::Sim {
+        [_, design, stimulus, settings @ ..] => Some(Command::Plain(PlainCommand::Sim {
             design,
             stimulus,
             unknown: UNKNOWN.bit(settings, false),
             probes: PROBE.names(settings),
-        }),
+        })),
         _ => None,
     }
 }
@@ -162,12 +54,12 @@ fn wave_of(words: &[Name]) -> Option<Command<'_>>
     ensures { option_map command_view result ≡ wave_of words.now }
 {
     match words {
-        [_, design, stimulus, settings @ ..] => Some(Command::Wave {
+        [_, design, stimulus, settings @ ..] => Some(Command::Plain(PlainCommand::Wave {
             design,
             stimulus,
             unknown: UNKNOWN.bit(settings, false),
             probes: PROBE.names(settings),
-        }),
+        })),
         _ => None,
     }
 }
@@ -177,12 +69,12 @@ fn grade_of(words: &[Name]) -> Option<Command<'_>>
     ensures { option_map command_view result ≡ grade_of words.now }
 {
     match words {
-        [_, design, stimulus, settings @ ..] => Some(Command::Grade {
+        [_, design, stimulus, settings @ ..] => Some(Command::OnRuntime(RuntimeCommand::Grade {
             design,
             stimulus,
-            workers: WORKERS.number(settings, DEFAULT_WORKERS),
+            workers: workers_in(settings),
             unknown: UNKNOWN.bit(settings, false),
-        }),
+        })),
         _ => None,
     }
 }
@@ -192,10 +84,10 @@ fn nets_of(words: &[Name]) -> Option<Command<'_>>
     ensures { option_map command_view result ≡ nets_of words.now }
 {
     match words {
-        [_, design, settings @ ..] => Some(Command::Nets {
+        [_, design, settings @ ..] => Some(Command::Plain(PlainCommand::Nets {
             design,
             probes: PROBE.names(settings),
-        }),
+        })),
         _ => None,
     }
 }
@@ -205,12 +97,12 @@ fn check_of(words: &[Name]) -> Option<Command<'_>>
     ensures { option_map command_view result ≡ check_of words.now }
 {
     match words {
-        [_, design, board, plan, settings @ ..] => Some(Command::Check {
+        [_, design, board, plan, settings @ ..] => Some(Command::Plain(PlainCommand::Check {
             design,
             board,
             plan: plan.as_slice(),
             probes: PROBE.names(settings),
-        }),
+        })),
         _ => None,
     }
 }
@@ -220,12 +112,12 @@ fn plan_of(words: &[Name]) -> Option<Command<'_>>
     ensures { option_map command_view result ≡ plan_of words.now }
 {
     match words {
-        [_, design, board, settings @ ..] => Some(Command::Plan {
+        [_, design, board, settings @ ..] => Some(Command::Plain(PlainCommand::Plan {
             design,
             board,
             chips: CHIPS.name(settings),
             probes: PROBE.names(settings),
-        }),
+        })),
         _ => None,
     }
 }
@@ -241,14 +133,17 @@ fn run_with<'a>(
         (name_given plan_setting settings.now) (workers_given settings.now)
         (unknown_given settings.now) (probes_given settings.now) }
 {
-    Command::Run {
+    let words = RunWords {
         design,
         board,
         stimulus,
         plan: PLAN.name(settings),
-        workers: WORKERS.number(settings, DEFAULT_WORKERS),
         unknown: UNKNOWN.bit(settings, false),
         probes: PROBE.names(settings),
+    };
+    match several_in(settings) {
+        Some(several) => Command::OnRuntime(RuntimeCommand::Run { words, several }),
+        None => Command::Plain(PlainCommand::Run(words)),
     }
 }
 
@@ -269,14 +164,16 @@ fn save_of(words: &[Name]) -> Option<Command<'_>>
     ensures { option_map command_view result ≡ save_of words.now }
 {
     match words {
-        [_, design, board, stimulus, settings @ ..] => Some(Command::Save {
-            design,
-            board,
-            stimulus,
-            plan: PLAN.name(settings),
-            workers: WORKERS.number(settings, DEFAULT_WORKERS),
-            unknown: UNKNOWN.bit(settings, false),
-        }),
+        [_, design, board, stimulus, settings @ ..] => {
+            Some(Command::OnRuntime(RuntimeCommand::Save {
+                design,
+                board,
+                stimulus,
+                plan: PLAN.name(settings),
+                workers: workers_in(settings),
+                unknown: UNKNOWN.bit(settings, false),
+            }))
+        }
         _ => None,
     }
 }
@@ -286,14 +183,16 @@ fn resume_of(words: &[Name]) -> Option<Command<'_>>
     ensures { option_map command_view result ≡ resume_of words.now }
 {
     match words {
-        [_, design, board, state, stimulus, settings @ ..] => Some(Command::Resume {
-            design,
-            board,
-            state,
-            stimulus,
-            plan: PLAN.name(settings),
-            workers: WORKERS.number(settings, DEFAULT_WORKERS),
-        }),
+        [_, design, board, state, stimulus, settings @ ..] => {
+            Some(Command::OnRuntime(RuntimeCommand::Resume {
+                design,
+                board,
+                state,
+                stimulus,
+                plan: PLAN.name(settings),
+                workers: workers_in(settings),
+            }))
+        }
         _ => None,
     }
 }
@@ -303,11 +202,11 @@ fn emit_of(words: &[Name]) -> Option<Command<'_>>
     ensures { option_map command_view result ≡ emit_of words.now }
 {
     match words {
-        [_, design, board, settings @ ..] => Some(Command::Emit {
+        [_, design, board, settings @ ..] => Some(Command::Plain(PlainCommand::Emit {
             design,
             board,
             plan: PLAN.name(settings),
-        }),
+        })),
         _ => None,
     }
 }
@@ -321,15 +220,22 @@ fn size_of(word: &Name) -> Size
     }
 }
 
+/// A demo of this size, with these settings.
+fn demo_with<'a>(size: Size, settings: &'a [Name]) -> Command<'a>
+    ensures { command_view result ≡ spelled_demo size.cells (workers_given settings.now) }
+{
+    match several_in(settings) {
+        Some(several) => Command::OnRuntime(RuntimeCommand::Demo { size, several }),
+        None => Command::Plain(PlainCommand::Demo(size)),
+    }
+}
+
 /// The command that words of the form of `demo` spell.
 fn demo_of(words: &[Name]) -> Option<Command<'_>>
     ensures { option_map command_view result ≡ demo_of words.now }
 {
     match words {
-        [_, cells, settings @ ..] => Some(Command::Demo {
-            size: size_of(cells),
-            workers: WORKERS.number(settings, DEFAULT_WORKERS),
-        }),
+        [_, cells, settings @ ..] => Some(demo_with(size_of(cells), settings)),
         _ => None,
     }
 }
@@ -350,8 +256,8 @@ fn spelled_as(verb: Verb, words: &[Name]) -> Option<Command<'_>>
         Verb::Resume => resume_of(words),
         Verb::Emit => emit_of(words),
         Verb::Demo => demo_of(words),
-        Verb::Help => Some(Command::Help),
-        Verb::Version => Some(Command::Version),
+        Verb::Help => Some(Command::Plain(PlainCommand::Help)),
+        Verb::Version => Some(Command::Plain(PlainCommand::Version)),
     }
 }
 
@@ -369,7 +275,7 @@ pub fn command_of(words: &[Name]) -> Command<'_>
 {
     match found_command(&COMMANDS, words) {
         Some(command) => command,
-        None => Command::Nothing(first_wrong(&COMMANDS, words)),
+        None => Command::Plain(PlainCommand::Nothing(first_wrong(&COMMANDS, words))),
     }
 }
 

@@ -35,7 +35,7 @@ use Rattle.vw_node.specs.Moves.{MakesSome}
 use Rattle.vw_node.specs.Positions.{Agrees}
 use Rattle.vw_net.proofs.WrittenBits.{length-with_bits}
 use Rattle.vw_net.specs.Steps.WrittenBits.{with_bits}
-use Rattle.vw_node.specs.Slots.{row_at, with_row}
+use Rattle.vw_node.specs.Slots.{NamesSlots, row_at, with_row}
 use Rattle.vw_node.specs.Starts.{net_count}
 use Rattle.vw_node.specs.States.{NodeState, input_bit, kept_bit, latch_bit, latch_number, slot, start_bit, stepped, stepped_bit}
 use Rattle.vw_node.proofs.EntryKinds.{next_entry}
@@ -70,10 +70,30 @@ tabulate_same each other count agree =
     let under : place < count = omega (arith, below, length-tabulate each count) in
     get_or-tabulate each count place false under ∙ agree place under ∙ sym (get_or-tabulate other count place false under))
 
-pub numbers_long : (planned : PlannedBoard) (node : ℕ) (program : List Action) (code : Code) → IsCode planned node program code → length code.numbers.items ≡ length code.latches.items
-numbers_long planned node program code is =
-    let flat = planned.ordered.flat in
-    ap (λ (list : List ℕ). length list) is.numbers ∙ length-map (own_latches planned node) (λ (net : ℕ). latch_count (take (net - flat.inputs) flat.cells)) ∙ slots_long code.nets.items (own_latches planned node) code.latches.items is.latches
+-- what a code of a node names are slots that there are
+pub names_slots : (planned : PlannedBoard) (node : ℕ) (program : List Action) (code : Code) → IsCode planned node program code → NamesSlots (length code.nets.items) code
+names_slots planned node program code is =
+    record {
+      latches = slots_within nets own code.latches.items is.latches;
+      inputs = slots_within nets (map taken own) code.inputs.items inputs_map;
+      records = slots_within nets (recorded planned node) code.records.items is.records;
+      paired = sym (slots_long nets (map taken own) code.inputs.items inputs_map) ∙ length-map own taken ∙ slots_long nets own code.latches.items is.latches;
+      numbered = ap (λ (list : List ℕ). length list) is.numbers ∙ length-map own number ∙ slots_long nets own code.latches.items is.latches;
+    } where
+      nets : List ℕ
+      nets = code.nets.items
+
+      own : List ℕ
+      own = own_latches planned node
+
+      taken : ℕ → ℕ
+      taken net = taken_net (driving_cell planned.ordered.flat net)
+
+      number : ℕ → ℕ
+      number net = latch_count (take (net - planned.ordered.flat.inputs) planned.ordered.flat.cells)
+
+      inputs_map : map (net_slot nets) (map taken own) ≡ map Some code.inputs.items
+      inputs_map = map_twice (net_slot nets) taken own ∙ is.inputs
 
 -- ---- a code of the job's node
 
@@ -90,19 +110,8 @@ module _ (job : Job) (share : Share) (is : IsShare job share) (code : Code) (is_
   abbrev all_nets : ℕ
   all_nets = job.checked.ordered.flat.inputs + length job.checked.ordered.flat.cells
 
-  pub latches_within : All (λ slot. slot < length nets) code.latches.items
-  latches_within = slots_within nets own code.latches.items is_code.latches
-
   inputs_map : map (net_slot nets) (map (λ net. taken_net (driving_cell job.checked.ordered.flat net)) own) ≡ map Some code.inputs.items
   inputs_map = map_twice (net_slot nets) (λ (net : ℕ). taken_net (driving_cell job.checked.ordered.flat net)) own ∙ is_code.inputs
-
-  pub inputs_within : All (λ slot. slot < length nets) code.inputs.items
-  inputs_within = slots_within nets (map (λ net. taken_net (driving_cell job.checked.ordered.flat net)) own) code.inputs.items inputs_map
-
-  pub inputs_long : length code.inputs.items ≡ length code.latches.items
-  inputs_long =
-      sym (slots_long nets (map (λ net. taken_net (driving_cell job.checked.ordered.flat net)) own) code.inputs.items inputs_map)
-      ∙ length-map own (λ (net : ℕ). taken_net (driving_cell job.checked.ordered.flat net)) ∙ slots_long nets own code.latches.items is_code.latches
 
   -- the bits of latches that take the values of a function, with a row of inputs
   abbrev sourced : (ℕ → Bool) → ℕ → List Bool → List Bool
@@ -200,17 +209,8 @@ module _ {ends : SeenEnds} {old : Node} (works : AtWork ends old) where
   pub row_there : old.clock < length old.rows
   row_there = omega (arith, fits.count, unfinished works)
 
-  pub end_inputs : length old.code.now.inputs.items ≡ length old.code.now.latches.items
-  end_inputs = inputs_long ends.job old.share fits.share old.code.now fits.code
-
-  pub end_latches : All (λ slot. slot < length old.slots.items) old.code.now.latches.items
-  end_latches = subst (λ (count : ℕ). All (λ slot. slot < count) old.code.now.latches.items) (sym fits.slots) (latches_within ends.job old.share fits.share old.code.now fits.code)
-
-  pub end_taken : All (λ slot. slot < length old.slots.items) old.code.now.inputs.items
-  end_taken = subst (λ (count : ℕ). All (λ slot. slot < count) old.code.now.inputs.items) (sym fits.slots) (inputs_within ends.job old.share fits.share old.code.now fits.code)
-
-  pub end_within : All (λ slot. slot < length old.slots.items) old.code.now.records.items
-  end_within = subst (λ (count : ℕ). All (λ slot. slot < count) old.code.now.records.items) (sym fits.slots) (slots_within old.code.now.nets.items (recorded (planned_of ends.job) old.share.node) old.code.now.records.items fits.code.records)
+  pub end_slots : NamesSlots (length old.slots.items) old.code.now
+  end_slots = subst (λ (count : ℕ). NamesSlots count old.code.now) (sym fits.slots) (names_slots (planned_of ends.job) old.share.node (actions (planned_of ends.job) old.share.node) old.code.now fits.code)
 
   module _ {read : Op} (found : read ≡ get_or old.code.now.ops.items old.made read) (is : read ≡ op.Step) where
     step_next : slice_get (actions (planned_of ends.job) old.share.node) old.made ≡ Some action.Step

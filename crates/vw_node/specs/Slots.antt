@@ -6,6 +6,7 @@ use Rattle.vw_net.specs.declared.cell.Cell.{Cell}
 use Rattle.vw_net.specs.declared.cell.Cell.TheVariants.{Gate, Latch}
 use Rattle.vw_net.specs.Cover.{cover_value}
 use Rattle.vw_net.specs.TruthTable.{bit_of, place_of}
+use Rattle.vw_prog.specs.declared.code.Code.{Code}
 use Rattle.vw_prog.specs.declared.job.Share.{Share}
 use Rattle.vw_prog.specs.SeenGates.{SeenGate}
 use Rattle.vw_node.specs.Fits.{bit_at_slot}
@@ -34,6 +35,14 @@ wide_by (Some (Gate ins cover)) bits reads = cover_value cover (map (bit_at_slot
 wide_by (Some (Latch d init)) bits reads = false
 
 -- ---- sources
+
+-- what a code reads and writes at the ends of clocks are slots that there are, and each latch has one input and one number
+pub record NamesSlots (slots : ℕ) (code : Code) : Type 0 where
+  pub latches : All (λ slot. slot < slots) code.latches.items
+  pub inputs : All (λ slot. slot < slots) code.inputs.items
+  pub records : All (λ slot. slot < slots) code.records.items
+  pub paired : length code.inputs.items ≡ length code.latches.items
+  pub numbered : length code.numbers.items ≡ length code.latches.items
 
 -- the row of a clock, where the node has rows
 abbrev pub row_at : Share → ℕ → Option (List Bool)

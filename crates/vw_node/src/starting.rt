@@ -1,9 +1,8 @@
 //! A node before its first action.
-ghost use Rattle.std.specs.Prelude.{◌≡◌, ◌<◌, false, length, map, replicate, IfOk};
-ghost use Rattle.std.specs.List.{All};
+ghost use Rattle.std.specs.Prelude.{◌≡◌, false, length, map, replicate, IfOk};
 ghost use Rattle.vw_node.specs.Fits.{bit_at_slot};
 ghost use Rattle.vw_net.specs.Steps.WrittenBits.{with_bits};
-ghost use Rattle.vw_node.specs.Slots.{row_at, with_row};
+ghost use Rattle.vw_node.specs.Slots.{NamesSlots, row_at, with_row};
 
 use crate::bits::{put_bits, put_inputs};
 use std::alloc::{AllocError, Global};
@@ -24,8 +23,7 @@ fn take_starts(numbers: &[u32], start: &[bool], bits: &mut [bool])
 
 /// The slots at the start: the host's inputs have the first row, latches have their start bits, and all others are 0.
 pub fn start_slots(alloc: Global, share: &Share, code: &Code) -> Result<Vec<bool>, AllocError>
-    requires numbers { length code.now.numbers.items ≡ length code.now.latches.items }
-    requires latches { All (λ slot. slot < length code.now.nets.items) code.now.latches.items }
+    requires { NamesSlots (length code.now.nets.items) code.now }
     ensures { IfOk result (λ slots. slots.items ≡ with_bits code.now.latches.items
         (map (bit_at_slot share.now.start.now) code.now.numbers.items)
         (with_row (row_at share.now 0) (replicate (length code.now.nets.items) false))) }

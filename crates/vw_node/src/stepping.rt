@@ -6,7 +6,7 @@ ghost use Rattle.vw_node.specs.Fits.{FitsJob, bit_at_slot, state_of};
 ghost use Rattle.vw_node.specs.Moves.{MakesSome, Steps};
 ghost use Rattle.vw_node.specs.Positions.{Agrees};
 ghost use Rattle.vw_net.specs.Steps.WrittenBits.{with_bits};
-ghost use Rattle.vw_node.specs.Slots.{ReadsWithin, row_at, with_gates, with_row};
+ghost use Rattle.vw_node.specs.Slots.{NamesSlots, ReadsWithin, row_at, with_gates, with_row};
 
 use crate::bits::{put_bits, put_inputs, take_bits};
 use crate::gates::{run_gates, wide_bit};
@@ -74,8 +74,7 @@ impl<'a> Node<'a> {
         requires row { self.old.clock < length self.old.rows }
         requires wide { All (λ row. length row ≡ length self.old.code.now.records.items)
             self.old.rows }
-        requires within { All (λ slot. slot < length self.old.slots.items)
-            self.old.code.now.records.items }
+        requires slots { NamesSlots (length self.old.slots.items) self.old.code.now }
         ensures rest { self.new ≡ record self.old { rows = self.new.rows } }
         ensures rows { self.new.rows ≡ slice_set self.old.rows self.old.clock
             (map (bit_at_slot self.old.slots.items) self.old.code.now.records.items) }
@@ -88,12 +87,7 @@ impl<'a> Node<'a> {
     fn move_sources(&mut self)
         requires clock { self.old.clock < self.old.share.clocks }
         requires next { length self.old.next.items ≡ length self.old.code.now.latches.items }
-        requires inputs { length self.old.code.now.inputs.items
-            ≡ length self.old.code.now.latches.items }
-        requires latches { All (λ slot. slot < length self.old.slots.items)
-            self.old.code.now.latches.items }
-        requires taken { All (λ slot. slot < length self.old.slots.items)
-            self.old.code.now.inputs.items }
+        requires slots { NamesSlots (length self.old.slots.items) self.old.code.now }
         ensures rest { self.new ≡ record self.old { slots = self.new.slots; next = self.new.next } }
         ensures next { length self.new.next.items ≡ length self.old.next.items }
         ensures slots { self.new.slots.items ≡ with_bits self.old.code.now.latches.items
@@ -111,17 +105,10 @@ impl<'a> Node<'a> {
     fn end_clock(&mut self)
         requires clock { self.old.clock < self.old.share.clocks }
         requires next { length self.old.next.items ≡ length self.old.code.now.latches.items }
-        requires inputs { length self.old.code.now.inputs.items
-            ≡ length self.old.code.now.latches.items }
-        requires latches { All (λ slot. slot < length self.old.slots.items)
-            self.old.code.now.latches.items }
-        requires taken { All (λ slot. slot < length self.old.slots.items)
-            self.old.code.now.inputs.items }
+        requires slots { NamesSlots (length self.old.slots.items) self.old.code.now }
         requires row { self.old.clock < length self.old.rows }
         requires wide { All (λ row. length row ≡ length self.old.code.now.records.items)
             self.old.rows }
-        requires within { All (λ slot. slot < length self.old.slots.items)
-            self.old.code.now.records.items }
         ensures rest { self.new ≡ record self.old {
           clock = self.old.clock + 1;
           made = 0;

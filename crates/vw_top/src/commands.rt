@@ -6,7 +6,7 @@ ghost use Rattle.vw_course.specs.Endings.{IsCallOf};
 ghost use Rattle.vw_course.specs.Goes.{Goes, GoesOver, IsCalled, IsFollowed, MovedFrom, Unmoved, seen_call, seen_outside};
 ghost use Rattle.vw_courses.specs.Commands.{course_of};
 ghost use Rattle.vw_courses.specs.Messages.{vocabulary};
-ghost use Rattle.vw_courses.specs.Steps.Commands.{command_view};
+ghost use Rattle.vw_courses.specs.Steps.Commands.{plain_view, runtime_view};
 ghost use Rattle.vw_courses.specs.Words.{spelled_by, needs_runtime};
 
 use crate::check::check;
@@ -27,7 +27,9 @@ use std::sync::Wait;
 use std::thread::Threads;
 use vw_batches::Floor;
 use vw_course::{Outside, report};
-use vw_courses::{Command, Reason, Unfinished, command_of, probes_of};
+use vw_courses::{
+    Command, PlainCommand, Reason, RuntimeCommand, Unfinished, command_of, probes_of,
+};
 use vw_files::{BoardFiles, PlanBy, Probes};
 use vw_outside::{BurstGate, Name, Shelf, Sink};
 use vw_prog::Fabric;
@@ -36,16 +38,15 @@ use vw_statuses::{headline, promises};
 /// Carries out a command that needs no runtime, up to its message.
 fn carry_out<S: Shelf, O: Sink>(
     alloc: Global,
-    command: Command<'_>,
+    command: PlainCommand<'_>,
     outside: &mut Outside<'_, '_, S, O>,
 ) -> Result<(), Unfinished>
-    requires { needs_runtime (command_view command) ≡ false }
-    ensures { Goes S.seen O.seen vocabulary (course_of (command_view command.entry)) outside.old
+    ensures { Goes S.seen O.seen vocabulary (course_of (plain_view command.entry)) outside.old
         outside.new
         result }
 {
     match command {
-        Command::Sim {
+        PlainCommand::Sim {
             design,
             stimulus,
             unknown,
@@ -55,7 +56,7 @@ fn carry_out<S: Shelf, O: Sink>(
             let probes = Probes { nets: &probes };
             sim(alloc, design, probes, stimulus, unknown, outside)
         }
-        Command::Wave {
+        PlainCommand::Wave {
             design,
             stimulus,
             unknown,
@@ -65,13 +66,12 @@ fn carry_out<S: Shelf, O: Sink>(
             let probes = Probes { nets: &probes };
             wave(alloc, design, probes, stimulus, unknown, outside)
         }
-        Command::Grade { .. } | Command::Save { .. } | Command::Resume { .. } => unreachable!(),
-        Command::Nets { design, probes } => {
+        PlainCommand::Nets { design, probes } => {
             let probes = probes_of(alloc, probes)?;
             let probes = Probes { nets: &probes };
             nets(alloc, design, probes, outside)
         }
-        Command::Check {
+        PlainCommand::Check {
             design,
             board,
             plan,
@@ -86,7 +86,7 @@ fn carry_out<S: Shelf, O: Sink>(
             };
             check(alloc, &files, outside)
         }
-        Command::Plan {
+        PlainCommand::Plan {
             design,
             board,
             chips,
@@ -101,25 +101,17 @@ fn carry_out<S: Shelf, O: Sink>(
             };
             plan(alloc, &files, outside)
         }
-        Command::Run {
-            design,
-            board,
-            stimulus,
-            plan,
-            unknown,
-            probes,
-            ..
-        } => {
-            let probes = probes_of(alloc, probes)?;
+        PlainCommand::Run(words) => {
+            let probes = probes_of(alloc, words.probes)?;
             let files = BoardFiles {
-                design,
+                design: words.design,
                 probes: Probes { nets: &probes },
-                board,
-                plan: PlanBy::file(plan),
+                board: words.board,
+                plan: PlanBy::file(words.plan),
             };
-            run_by_one(alloc, &files, stimulus, unknown, outside)
+            run_by_one(alloc, &files, words.stimulus, words.unknown, outside)
         }
-        Command::Emit {
+        PlainCommand::Emit {
             design,
             board,
             plan,
@@ -132,46 +124,38 @@ fn carry_out<S: Shelf, O: Sink>(
             };
             emit(alloc, &files, outside)
         }
-        Command::Demo { size, .. } => demo_by_one(alloc, size, outside),
-        Command::Help => help(outside),
-        Command::Version => version(outside),
-        Command::Nothing(place) => Err(Unfinished::Refused(Reason::Usage(place))),
+        PlainCommand::Demo(size) => demo_by_one(alloc, size, outside),
+        PlainCommand::Help => help(outside),
+        PlainCommand::Version => version(outside),
+        PlainCommand::Nothing(place) => Err(Unfinished::Refused(Reason::Usage(place))),
     }
 }
 
-/// Carries out a command by the workers that it asks for, up to its message.
+/// Carries out a command on a runtime, by the workers that it asks for, up to its message.
 fn carry_out_together<R: Threads + Wait + Sync, S: Shelf, F: Fabric, G: BurstGate, O: Sink>(
     alloc: Global,
-    command: Command<'_>,
+    command: RuntimeCommand<'_>,
     floor: &mut Floor<'_, '_, '_, R, F, G>,
     outside: &mut Outside<'_, '_, S, O>,
 ) -> Result<(), Unfinished>
     ensures fabric { floor.new.fabric.ghost_name ≡ floor.old.fabric.ghost_name }
     ensures goes { GoesOver S.seen O.seen vocabulary
         (MovedFrom (F.carried floor.old.fabric.now) (F.carried floor.new.fabric.now))
-        (course_of (command_view command.entry)) outside.old outside.new result }
+        (course_of (runtime_view command.entry)) outside.old outside.new result }
 {
     match command {
-        Command::Run {
-            design,
-            board,
-            stimulus,
-            plan,
-            workers,
-            unknown,
-            probes,
-        } => {
-            let probes = probes_of(alloc, probes)?;
+        RuntimeCommand::Run { words, several } => {
+            let probes = probes_of(alloc, words.probes)?;
             let files = BoardFiles {
-                design,
+                design: words.design,
                 probes: Probes { nets: &probes },
-                board,
-                plan: PlanBy::file(plan),
+                board: words.board,
+                plan: PlanBy::file(words.plan),
             };
-            floor.workers = workers;
-            run_by_several(alloc, &files, stimulus, unknown, floor, outside)
+            floor.workers = several.workers;
+            run_by_several(alloc, &files, words.stimulus, words.unknown, floor, outside)
         }
-        Command::Save {
+        RuntimeCommand::Save {
             design,
             board,
             stimulus,
@@ -188,7 +172,7 @@ fn carry_out_together<R: Threads + Wait + Sync, S: Shelf, F: Fabric, G: BurstGat
             floor.workers = workers;
             save(alloc, &files, stimulus, unknown, floor, outside)
         }
-        Command::Resume {
+        RuntimeCommand::Resume {
             design,
             board,
             state,
@@ -205,47 +189,37 @@ fn carry_out_together<R: Threads + Wait + Sync, S: Shelf, F: Fabric, G: BurstGat
             floor.workers = workers;
             resume(alloc, &files, state, stimulus, floor, outside)
         }
-        Command::Grade {
+        RuntimeCommand::Grade {
             design,
             stimulus,
             workers,
             unknown,
         } => grade(floor.rt, alloc, design, stimulus, workers, unknown, outside),
-        Command::Demo { size, workers } => {
-            floor.workers = workers;
+        RuntimeCommand::Demo { size, several } => {
+            floor.workers = several.workers;
             demo_by_several(alloc, size, floor, outside)
         }
-        Command::Sim { .. }
-        | Command::Wave { .. }
-        | Command::Nets { .. }
-        | Command::Check { .. }
-        | Command::Plan { .. }
-        | Command::Emit { .. }
-        | Command::Help
-        | Command::Version
-        | Command::Nothing(_) => carry_out(alloc, command, outside),
     }
 }
 
 /// Carries out a command that needs no runtime over this shelf and this sink, up to its message.
 fn follow<S: Shelf, O: Sink>(
     alloc: Global,
-    command: Command<'_>,
+    command: PlainCommand<'_>,
     shelf: &mut S,
     out: &mut O,
 ) -> Result<(), Unfinished>
-    requires { needs_runtime (command_view command) ≡ false }
-    ensures { IsFollowed vocabulary Unmoved (course_of (command_view command.entry)) (S.seen shelf.old)
+    ensures { IsFollowed vocabulary Unmoved (course_of (plain_view command.entry)) (S.seen shelf.old)
         (O.seen out.old) (S.seen shelf.new) (O.seen out.new) result }
 {
     let mut outside = Outside { shelf, out };
     carry_out(alloc, command, &mut outside)
 }
 
-/// The same by the workers that the command asks for.
+/// The same on a runtime, by the workers that the command asks for.
 fn follow_together<R: Threads + Wait + Sync, S: Shelf, F: Fabric, G: BurstGate, O: Sink>(
     alloc: Global,
-    command: Command<'_>,
+    command: RuntimeCommand<'_>,
     floor: &mut Floor<'_, '_, '_, R, F, G>,
     shelf: &mut S,
     out: &mut O,
@@ -253,7 +227,7 @@ fn follow_together<R: Threads + Wait + Sync, S: Shelf, F: Fabric, G: BurstGate, 
     ensures fabric { floor.new.fabric.ghost_name ≡ floor.old.fabric.ghost_name }
     ensures goes { IsFollowed vocabulary
         (MovedFrom (F.carried floor.old.fabric.now) (F.carried floor.new.fabric.now))
-        (course_of (command_view command.entry)) (S.seen shelf.old) (O.seen out.old)
+        (course_of (runtime_view command.entry)) (S.seen shelf.old) (O.seen out.old)
         (S.seen shelf.new) (O.seen out.new) result }
 {
     let mut outside = Outside { shelf, out };
@@ -263,13 +237,12 @@ fn follow_together<R: Threads + Wait + Sync, S: Shelf, F: Fabric, G: BurstGate, 
 /// Carries out a command that needs no runtime, and gives the exit status.
 fn without_runtime<S: Shelf, O: Sink, E: Sink>(
     alloc: Global,
-    command: Command<'_>,
+    command: PlainCommand<'_>,
     shelf: &mut S,
     out: &mut O,
     err: &mut E,
 ) -> u8
-    requires { needs_runtime (command_view command) ≡ false }
-    ensures { IsCalled vocabulary (course_of (command_view command.entry))
+    ensures { IsCalled vocabulary (course_of (plain_view command.entry))
         (S.seen shelf.old) (O.seen out.old) (E.seen err.old)
         (S.seen shelf.new) (O.seen out.new) (E.seen err.new)
         result }
@@ -280,17 +253,17 @@ fn without_runtime<S: Shelf, O: Sink, E: Sink>(
     }
 }
 
-/// Carries out a command by the workers that it asks for, and gives the exit status.
+/// Carries out a command on a runtime, by the workers that it asks for, and gives the exit status.
 fn together<R: Threads + Wait + Sync, S: Shelf, F: Fabric, G: BurstGate, O: Sink, E: Sink>(
     alloc: Global,
-    command: Command<'_>,
+    command: RuntimeCommand<'_>,
     floor: &mut Floor<'_, '_, '_, R, F, G>,
     shelf: &mut S,
     out: &mut O,
     err: &mut E,
 ) -> u8
     ensures fabric { floor.new.fabric.ghost_name ≡ floor.old.fabric.ghost_name }
-    ensures called { IsCallOf (course_of (command_view command.entry)) (seen_call
+    ensures called { IsCallOf (course_of (runtime_view command.entry)) (seen_call
         (seen_outside (S.seen shelf.old) (O.seen out.old) (F.carried floor.old.fabric.now))
         (E.seen err.old)
         (seen_outside (S.seen shelf.new) (O.seen out.new) (F.carried floor.new.fabric.now))
@@ -334,11 +307,10 @@ pub fn alone<S: Shelf, O: Sink, E: Sink>(
 {
     headline();
     promises();
-    let command = command_of(words);
-    if command.needs_runtime() {
-        return None;
+    match command_of(words) {
+        Command::Plain(command) => Some(without_runtime(alloc, command, shelf, out, err)),
+        Command::OnRuntime(_) => None,
     }
-    Some(without_runtime(alloc, command, shelf, out, err))
 }
 
 /// Carries out the command that the words after the program's name spell, and gives the exit status. After each
@@ -375,7 +347,11 @@ pub fn virtual_wires<R: Threads + Wait + Sync, S: Shelf, F: Fabric, G: BurstGate
 {
     headline();
     promises();
-    let command = command_of(words);
-    let mut floor = Floor::new(rt, fabric, gate, 1);
-    together(alloc, command, &mut floor, shelf, out, err)
+    match command_of(words) {
+        Command::Plain(command) => without_runtime(alloc, command, shelf, out, err),
+        Command::OnRuntime(command) => {
+            let mut floor = Floor::new(rt, fabric, gate, 1);
+            together(alloc, command, &mut floor, shelf, out, err)
+        }
+    }
 }

@@ -1,8 +1,13 @@
 -- Commands of the code as those of the words.
-use Rattle.std.specs.Prelude.{take}
+use Rattle.std.specs.Prelude.{ℕ, take}
 use Rattle.std.specs.Option.{option_copied}
-use Rattle.vw_courses.specs.declared.words.Command.{Command}
-use Rattle.vw_courses.specs.declared.words.Command.TheVariants.{Sim, Wave, Grade, Nets, Check, Plan, Run, Save, Resume, Emit, Demo, Help, Version, Nothing}
+use Rattle.vw_courses.specs.declared.command.Command.{Command}
+use Rattle.vw_courses.specs.declared.command.Command.TheVariants.{Plain, OnRuntime}
+use Rattle.vw_courses.specs.declared.command.PlainCommand.{PlainCommand}
+use Rattle.vw_courses.specs.declared.command.PlainCommand.TheVariants as plain
+use Rattle.vw_courses.specs.declared.command.RunWords.{RunWords}
+use Rattle.vw_courses.specs.declared.command.RuntimeCommand.{RuntimeCommand}
+use Rattle.vw_courses.specs.declared.command.RuntimeCommand.TheVariants as runtime
 use Rattle.vw_courses.specs.declared.forms.TheConstants.{MOST_PROBES}
 use Rattle.vw_words.specs.declared.forms.Entry.{Entry}
 use Rattle.vw_words.specs.Views.{form_view}
@@ -10,24 +15,36 @@ use Rattle.vw_courses.specs.declared.forms.Verb.{Verb}
 use Rattle.vw_courses.specs.Words.{Spelled, CommandForm}
 use Rattle.vw_courses.specs.Words as words
 
-abbrev pub command_view : Command → Spelled
-command_view (Sim design stimulus unknown probes) = words.sim design.now stimulus.now unknown (take MOST_PROBES probes)
-command_view (Wave design stimulus unknown probes) = words.wave design.now stimulus.now unknown (take MOST_PROBES probes)
-command_view (Grade design stimulus workers unknown) = words.grade design.now stimulus.now workers unknown
-command_view (Nets design probes) = words.nets design.now (take MOST_PROBES probes)
-command_view (Check design board plan probes) = words.check design.now board.now plan.now (take MOST_PROBES probes)
-command_view (Plan design board chips probes) = words.plan design.now board.now (option_copied chips) (take MOST_PROBES probes)
-command_view (Run design board stimulus plan workers unknown probes) =
-    words.run design.now board.now stimulus.now (option_copied plan) workers unknown (take MOST_PROBES probes)
-command_view (Demo size workers) = words.demo size.cells workers
-command_view (Save design board stimulus plan workers unknown) =
+-- a run by so many workers
+abbrev pub run_view : RunWords → ℕ → Spelled
+run_view its workers =
+    words.run its.design.now its.board.now its.stimulus.now (option_copied its.plan) workers its.unknown (take MOST_PROBES its.probes)
+
+abbrev pub plain_view : PlainCommand → Spelled
+plain_view (plain.Sim design stimulus unknown probes) = words.sim design.now stimulus.now unknown (take MOST_PROBES probes)
+plain_view (plain.Wave design stimulus unknown probes) = words.wave design.now stimulus.now unknown (take MOST_PROBES probes)
+plain_view (plain.Nets design probes) = words.nets design.now (take MOST_PROBES probes)
+plain_view (plain.Check design board plan probes) = words.check design.now board.now plan.now (take MOST_PROBES probes)
+plain_view (plain.Plan design board chips probes) = words.plan design.now board.now (option_copied chips) (take MOST_PROBES probes)
+plain_view (plain.Run its) = run_view its 1
+plain_view (plain.Emit design board plan) = words.emit design.now board.now (option_copied plan)
+plain_view (plain.Demo size) = words.demo size.cells 1
+plain_view plain.Help = words.help
+plain_view plain.Version = words.version
+plain_view (plain.Nothing place) = words.nothing place
+
+abbrev pub runtime_view : RuntimeCommand → Spelled
+runtime_view (runtime.Grade design stimulus workers unknown) = words.grade design.now stimulus.now workers unknown
+runtime_view (runtime.Run its several) = run_view its several.workers
+runtime_view (runtime.Save design board stimulus plan workers unknown) =
     words.save design.now board.now stimulus.now (option_copied plan) workers unknown
-command_view (Resume design board state stimulus plan workers) =
+runtime_view (runtime.Resume design board state stimulus plan workers) =
     words.resume design.now board.now state.now stimulus.now (option_copied plan) workers
-command_view (Emit design board plan) = words.emit design.now board.now (option_copied plan)
-command_view Help = words.help
-command_view Version = words.version
-command_view (Nothing place) = words.nothing place
+runtime_view (runtime.Demo size several) = words.demo size.cells several.workers
+
+abbrev pub command_view : Command → Spelled
+command_view (Plain command) = plain_view command
+command_view (OnRuntime command) = runtime_view command
 
 -- an entry of the table of commands as one of the definitions
 abbrev pub command_form : Entry Verb → CommandForm

@@ -8,15 +8,13 @@ use Rattle.vw_prog.specs.declared.job.Job.{Job}
 use Rattle.vw_prog.specs.declared.job.Share.{Share}
 use Rattle.vw_prog.specs.Actions.{actions}
 use Rattle.vw_prog.specs.Codes.{IsCode}
-use Rattle.vw_prog.specs.Due.{own_latches}
 use Rattle.vw_prog.specs.Scripts.{planned_of}
 use Rattle.vw_prog.proofs.LoopTurns.{stand_first}
 use Rattle.vw_node.specs.Fits.{IsShare, bit_by, bit_at_slot}
 use Rattle.vw_node.specs.Lists.{tabulate}
 use Rattle.vw_node.specs.Starts.{net_count, planned_in}
 use Rattle.vw_node.specs.States.{NodeState}
-use Rattle.vw_node.proofs.ClockEnds.{length-sourced, numbers_long, start_slots_are}
-use Rattle.vw_node.proofs.SlotBits.{slots_within}
+use Rattle.vw_node.proofs.ClockEnds.{length-sourced, names_slots, start_slots_are}
 use Rattle.vw_node.proofs.node.Node.make.Goals as goal
 
 same_board : (job : Job) (share : Share) → IsShare job share → planned_in share ≡ planned_of job
@@ -30,16 +28,10 @@ same_in zero place one = refl
 same_in (suc count) zero one = refl
 same_in (suc count) (suc place) one = same_in count place one
 
-pub start_slots-requires-clause-numbers : goal.start_slots-requires-clause-numbers
-start_slots-requires-clause-numbers c =
+pub start_slots-requires : goal.start_slots-requires
+start_slots-requires c =
     let share = c.args.share in
-    numbers_long (planned_in share) share.node (actions (planned_in share) share.node) c.code-code.result.now (c.requires.stand share.node c.code-code.result.now c.code-code.ensures)
-
-pub start_slots-requires-clause-latches : goal.start_slots-requires-clause-latches
-start_slots-requires-clause-latches c =
-    let share = c.args.share in
-    let code = c.code-code.result.now in
-    slots_within code.nets.items (own_latches (planned_in share) share.node) code.latches.items (c.requires.stand share.node code c.code-code.ensures).latches
+    names_slots (planned_in share) share.node (actions (planned_in share) share.node) c.code-code.result.now (c.requires.stand share.node c.code-code.result.now c.code-code.ensures)
 
 pub returns : goal.returns
 returns c =

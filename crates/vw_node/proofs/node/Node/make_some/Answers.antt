@@ -2,7 +2,7 @@ use Rattle.std.proofs.Common.{◌∙◌, length, Bool, List, false, ap, arith}
 use Rattle.std.proofs.lemmas.List.{get_or_default}
 use Rattle.vw_net.specs.declared.ordered.Ordered.{Ordered}
 use Rattle.vw_plan.specs.declared.checked.Checked.{Checked}
-use Rattle.vw_node.proofs.ClockEnds.{end_agrees, end_fits, end_latches, end_makes, end_taken, end_within}
+use Rattle.vw_node.proofs.ClockEnds.{end_agrees, end_fits, end_makes, end_slots}
 use Rattle.vw_node.proofs.StepAnswers.{ReadsGate, ReadsLoop, AtWork, empty_makes, full_makes, run_agrees, run_begins_first, run_fits, run_last, run_made, run_makes, run_room, run_some, run_within}
 use Rattle.vw_node.proofs.StepAnswers.{send_agrees, send_fits, send_inside, send_loop, send_makes, send_next, send_place, send_slot, take_agrees, take_expected, take_fits, take_makes, take_slot}
 use Rattle.vw_node.proofs.StepAnswers.{wide_agrees, wide_fits, wide_inside, wide_makes, wide_reads, wide_target, wide_within}
@@ -201,14 +201,8 @@ returns-in-None-clause-makes g c =
 
 -- ---- the end of a clock
 
-pub end_clock-requires-clause-latches : goal.end_clock-requires-clause-latches
-end_clock-requires-clause-latches g c = end_latches (at_work g (goal.at.end_clock-requires-clause-latches g c).Else-self)
-
-pub end_clock-requires-clause-taken : goal.end_clock-requires-clause-taken
-end_clock-requires-clause-taken g c = end_taken (at_work g (goal.at.end_clock-requires-clause-taken g c).Else-self)
-
-pub end_clock-requires-clause-within : goal.end_clock-requires-clause-within
-end_clock-requires-clause-within g c = end_within (at_work g (goal.at.end_clock-requires-clause-within g c).Else-self)
+pub end_clock-requires-clause-slots : goal.end_clock-requires-clause-slots
+end_clock-requires-clause-slots g c = end_slots (at_work g (goal.at.end_clock-requires-clause-slots g c).Else-self)
 
 pub returns-in-Step-clause-fits : goal.returns-in-Step-clause-fits
 returns-in-Step-clause-fits g c =
