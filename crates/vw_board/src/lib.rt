@@ -17,3 +17,4 @@ pub use board_text::read;
 pub use distances::Distances;
 pub use fault::BoardFault;
 pub use laws::{board_faults_are_single, boards_spell_once, first_steps_are_one};
+pub use link_lines::has_link;

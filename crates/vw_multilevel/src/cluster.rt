@@ -27,7 +27,10 @@ pub struct Limits {
 }
 
 /// The clusters so far, each named by one of its vertices.
-struct Clusters {
+#[derive(Drop)]
+struct Clusters<'a> {
+    /// The chip of each vertex; only vertices of one chip share a cluster. Without any, all are of one chip.
+    chip_of: &'a NumberList,
     /// The cluster of each vertex.
     of: NumberList,
     /// How many cells each cluster stands for.
@@ -40,27 +43,16 @@ struct Clusters {
     lonely: Option<u32>,
 }
 
-impl Drop for Clusters {
-    fn drop(self) {
-        let Clusters {
-            of: _,
-            weights: _,
-            scores: _,
-            seen: _,
-            lonely: _,
-        } = self;
-    }
-}
-
-impl Clusters {
+impl<'a> Clusters<'a> {
     /// Each vertex alone.
-    fn of(alloc: Global, level: &Level) -> Result<Self, AllocError> {
+    fn of(alloc: Global, level: &Level, chip_of: &'a NumberList) -> Result<Self, AllocError> {
         let vertices = level.vertices();
         let mut weights = NumberList::zeros(alloc, vertices)?;
         for vertex in 0..vertices {
             weights.set(vertex, level.weights.at(vertex));
         }
         Ok(Clusters {
+            chip_of,
             of: NumberList::below(alloc, vertices)?,
             weights,
             scores: NumberList::zeros(alloc, vertices)?,
@@ -74,6 +66,11 @@ impl Clusters {
         self.of.at(vertex) == vertex && self.weights.at(vertex) == level.weights.at(vertex)
     }
 
+    /// Whether two vertices are of one chip.
+    fn share_chip(&self, one: u32, other: u32) -> bool {
+        self.chip_of.at(one) == self.chip_of.at(other)
+    }
+
     /// Adds the scores that a net gives; of a great net so many vertices, which differ from vertex to vertex.
     fn score(&mut self, net: &[u32], vertex: u32, window: u32) -> Result<(), AllocError> {
         let size = u32::try_from(net.len()).unwrap_or(u32::MAX);
@@ -81,6 +78,9 @@ impl Clusters {
         for step in 0..size.min(window) {
             let place = vertex.wrapping_add(step).checked_rem(size).unwrap_or(0);
             if let Some(other) = net.get(place as usize) {
+                if !self.share_chip(*other, vertex) {
+                    continue;
+                }
                 let cluster = self.of.at(*other);
                 if self.scores.at(cluster) == 0 {
                     self.seen.push(cluster)?;
@@ -128,7 +128,8 @@ impl Clusters {
                 .weights
                 .at(other)
                 .saturating_add(self.weights.at(vertex));
-            if self.is_alone(level, other) && other != vertex && both <= most {
+            let may_join = other != vertex && self.share_chip(other, vertex);
+            if self.is_alone(level, other) && may_join && both <= most {
                 self.lonely = None;
                 return Some(other);
             }
@@ -193,13 +194,14 @@ fn numbered_clusters(alloc: Global, of: &NumberList) -> Result<(NumberList, u32)
 }
 
 /// The cluster of each vertex by its number, and how many clusters there are. None weighs more than it may unless a vertex
-/// does.
+/// does, and none is of two chips, given the chip of each vertex, or an empty list where that doesn't matter.
 pub fn clustered(
     alloc: Global,
     level: &Level,
+    chip_of: &NumberList,
     limits: Limits,
 ) -> Result<(NumberList, u32), AllocError> {
-    let mut found = Clusters::of(alloc, level)?;
+    let mut found = Clusters::of(alloc, level, chip_of)?;
     for place in 0..level.vertices() {
         let vertex = nth(place, limits.order, level.vertices());
         found.place(level, vertex, limits)?;

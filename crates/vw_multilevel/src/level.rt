@@ -2,7 +2,6 @@
 use crate::numbers::NumberList;
 use crate::rows::NumberRows;
 use std::alloc::{AllocError, Global};
-use vw_net::Sequence;
 
 /// Nets of at least two vertices.
 pub struct Level {
@@ -26,17 +25,11 @@ impl Drop for Level {
 }
 
 impl Level {
-    /// The level at which each vertex is a cell, given how many nets there are, and those of each cell.
-    pub fn of_pins(
-        alloc: Global,
-        nets: u32,
-        of_cells: &[Sequence<u32>],
-    ) -> Result<Self, AllocError> {
-        let of_cell = pin_rows(alloc, of_cells)?;
-        let of_net = of_cell.transposed(alloc, nets)?;
-        let map = NumberList::below(alloc, of_cell.len())?;
-        let weights = NumberList::filled(alloc, of_cell.len(), 1)?;
-        merged_level(alloc, &of_net, &map, weights)
+    /// The level at which each vertex is one of so many cells, given the cells of each net. Nets of a single cell are left out.
+    pub fn of_nets(alloc: Global, of_net: &NumberRows, cells: u32) -> Result<Self, AllocError> {
+        let map = NumberList::below(alloc, cells)?;
+        let weights = NumberList::filled(alloc, cells, 1)?;
+        merged_level(alloc, of_net, &map, weights)
     }
 
     /// How many vertices there are.
@@ -72,18 +65,6 @@ impl Level {
         }
         merged_level(alloc, &self.of_net, map, weights)
     }
-}
-
-/// The nets of each cell, as rows.
-fn pin_rows(alloc: Global, of_cells: &[Sequence<u32>]) -> Result<NumberRows, AllocError> {
-    let mut of_cell = NumberRows::new(alloc)?;
-    for own in of_cells {
-        for net in own.as_slice() {
-            of_cell.push(*net)?;
-        }
-        of_cell.end_row()?;
-    }
-    Ok(of_cell)
 }
 
 /// The vertices of each of these nets by their new numbers, each once. A vertex whose new number is too great is left out,

@@ -2,15 +2,23 @@
 //! it (Karypis and Kumar 1998).
 #![tactic(auto)]
 
+mod arcs;
 mod climb;
 mod cluster;
 mod cut;
 mod grow;
 mod halves;
 mod level;
+mod nets;
 mod numbers;
+mod refine;
 mod rows;
 mod run;
+mod starts;
+mod timing;
+mod ways;
 mod wishes;
 
+pub use refine::{again, rounds};
+pub use starts::renumbered;
 pub use wishes::hint;

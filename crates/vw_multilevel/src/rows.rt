@@ -50,6 +50,14 @@ impl NumberRows {
         self.items.push(number)
     }
 
+    /// Puts numbers at the end of the row that isn't ended.
+    pub fn push_all(&mut self, numbers: &[u32]) -> Result<(), AllocError> {
+        for number in numbers {
+            self.items.push(*number)?;
+        }
+        Ok(())
+    }
+
     /// Ends a row.
     pub fn end_row(&mut self) -> Result<(), AllocError> {
         self.starts.push(self.items.len())

@@ -8,9 +8,9 @@ use crate::numbers::NumberList;
 use std::alloc::{AllocError, Global};
 
 /// A level of clusters, and the cluster of each vertex of the level before it.
-struct Coarser {
-    level: Level,
-    map: NumberList,
+pub struct Coarser {
+    pub level: Level,
+    pub map: NumberList,
 }
 
 impl Drop for Coarser {
@@ -68,7 +68,7 @@ impl MultilevelRun {
             order: self.order,
             window: window.max(8).min(40),
         };
-        clustered(alloc, level, limits)
+        clustered(alloc, level, &NumberList::new(alloc), limits)
     }
 
     /// Clusters of clusters, until few are left or none more are found. The vertices are choosy as long as that leads to
@@ -162,7 +162,11 @@ impl MultilevelRun {
 }
 
 /// The chip of each vertex of a finer level, given that of each cluster.
-fn finer(alloc: Global, map: &NumberList, chip_of: &NumberList) -> Result<NumberList, AllocError> {
+pub fn finer(
+    alloc: Global,
+    map: &NumberList,
+    chip_of: &NumberList,
+) -> Result<NumberList, AllocError> {
     let mut chips = NumberList::zeros(alloc, map.len())?;
     for vertex in 0..map.len() {
         chips.set(vertex, chip_of.at(map.at(vertex)));

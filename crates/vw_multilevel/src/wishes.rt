@@ -6,10 +6,11 @@ ghost use Rattle.vw_plan.specs.Chips.{IsChip};
 use crate::cut::{Cut, better};
 use crate::halves::halved;
 use crate::level::Level;
+use crate::nets::{cells_of_nets, level_of};
 use crate::numbers::NumberList;
 use crate::run::MultilevelRun;
 use std::alloc::{AllocError, Global};
-use vw_net::Sequence;
+use vw_net::Ordered;
 use vw_plan::Board;
 
 /// The cells on these chips, of which each has so much room, after sweeps.
@@ -116,22 +117,18 @@ fn best_cut(alloc: Global, top: &Level, board: &Board) -> Result<Cut, AllocError
 
 /// A chip for each cell: where it might be put. How good a partition is found rests on it, and nothing else does.
 ///
-/// It takes how many nets there are, and for each cell the numbers of the nets that it drives or reads. Cells that share
-/// nets are put together where that can be done: the best of the order of the cells, of halves of halves, and of runs over
-/// all chips at once. A chip may get more cells than it has room for. It takes memory for the nets of the cells, and for
-/// each chip a number for each net.
-pub fn hint(
-    alloc: Global,
-    nets: u32,
-    of_cells: &[Sequence<u32>],
-    board: &Board,
-) -> Result<Vec<u32>, AllocError>
-    ensures each { IfOk result (λ wishes. length wishes.items ≡ length of_cells.now) }
+/// Cells that share nets are put together where that can be done: the best of the order of the cells, of halves of halves,
+/// and of runs over all chips at once. A chip may get more cells than it has room for. It takes memory for the nets of the
+/// cells, and for each chip a number for each net.
+pub fn hint(alloc: Global, ordered: &Ordered, board: &Board) -> Result<Vec<u32>, AllocError>
+    ensures each { IfOk result (λ wishes. length wishes.items ≡ length ordered.now.flat.cells) }
     ensures chips { IfOk result (λ wishes. All (IsChip board.now) wishes.items) }
 {
-    let top = Level::of_pins(alloc, nets, of_cells)?;
+    let flat = ordered.flat();
+    let of_net = cells_of_nets(alloc, flat)?;
+    let top = level_of(alloc, flat, &of_net)?;
     let best = best_cut(alloc, &top, board)?;
-    wished(alloc, of_cells.len(), &best, board)
+    wished(alloc, flat.cells().len(), &best, board)
 }
 
 /// The chip of a cell by its number on the board, where the first one is 1.

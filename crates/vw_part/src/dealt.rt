@@ -9,12 +9,16 @@ use crate::cell_nets::CellNets;
 use crate::deal::Deal;
 use crate::fault::PartFault;
 use std::alloc::{AllocError, Global};
-use vw_multilevel::hint;
 use vw_net::{Flat, Ordered, Sequence};
 use vw_plan::Board;
 
-/// Deals the cells to chips that have room for all of them.
-fn dealt(alloc: Global, flat: &Flat, board: &Board) -> Result<Sequence<u32>, AllocError>
+/// Deals the cells to chips that have room for all of them, by wishes.
+fn dealt(
+    alloc: Global,
+    flat: &Flat,
+    board: &Board,
+    wishes: &[u32],
+) -> Result<Sequence<u32>, AllocError>
     requires { length flat.now.cells ≤ board.now.chips * board.now.cells }
     ensures each { IfOk result (λ chip_of. length chip_of ≡ length flat.now.cells) }
     ensures chips { IfOk result (All (IsChip board.now)) }
@@ -22,20 +26,21 @@ fn dealt(alloc: Global, flat: &Flat, board: &Board) -> Result<Sequence<u32>, All
     ensures least { IfOk result (NoMoveHelps flat.now board.now) }
 {
     let cell_nets = CellNets::of(alloc, flat)?;
-    let nets = u32::try_from(cell_nets.nets).unwrap_or(u32::MAX);
-    let wishes = hint(alloc, nets, cell_nets.of_cells.as_slice(), board)?;
-    let mut deal = Deal::of(alloc, board, &cell_nets, wishes.as_slice())?;
+    let mut deal = Deal::of(alloc, board, &cell_nets, wishes)?;
     deal.descend();
     Ok(Sequence::of(deal.chip_of))
 }
 
 /// Deals the cells to the chips of a board: each cell has one chip, no chip has more cells than it has room for, and no
-/// move of one cell to a chip with room lowers the number of needed pairs. It takes memory for the nets of the cells and the
-/// cells of the nets, and for each chip a number for each net and for each cell.
-pub fn partition(
+/// move of one cell to a chip with room lowers the number of needed pairs. Each cell begins on the chip that is wished for it,
+/// where there is a wish, it is a chip's number, and the chip has room; else on the first chip with room. How few pairs are
+/// needed at last rests on the wishes, and nothing else does. It takes memory for the nets of the cells and the cells of the
+/// nets, and for each chip a number for each net and for each cell.
+pub fn partition_from(
     alloc: Global,
     ordered: &Ordered,
     board: &Board,
+    wishes: &[u32],
 ) -> Result<Sequence<u32>, PartFault>
     ensures each { IfOk result (λ chip_of. length chip_of ≡ length ordered.now.flat.cells) }
     ensures chips { IfOk result (All (IsChip board.now)) }
@@ -49,7 +54,7 @@ pub fn partition(
     if cells > room {
         return Err(PartFault::TooManyCells { cells, room });
     }
-    match dealt(alloc, flat, board) {
+    match dealt(alloc, flat, board, wishes) {
         Ok(chip_of) => Ok(chip_of),
         Err(_) => Err(PartFault::NoMemory),
     }

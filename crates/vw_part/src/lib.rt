@@ -11,5 +11,5 @@ mod load;
 mod net_cells;
 mod tally;
 
-pub use dealt::partition;
+pub use dealt::partition_from;
 pub use fault::PartFault;

@@ -14,8 +14,8 @@ use Rattle.vw_net.specs.Steps.Bits.{one_if}
 use Rattle.vw_net.proofs.Lists.{one_if-le}
 use Rattle.vw_plan.specs.declared.need.Route.{Route}
 use Rattle.vw_pipe.specs.declared.task.Task.{Task}
+use Rattle.vw_pipe.specs.declared.turns.Turns.{Turns}
 use Rattle.vw_pipe.specs.Steps.Tasks.{AreRising, all_tasks, tasks_from}
-use Rattle.std.proofs.lemmas.Option.{same_Some}
 use Rattle.vw_pipe.proofs.DoneTasks.{is_task-own, is_task-true}
 use Rattle.vw_pipe.specs.Steps.Underway.{AreTasks, IsOfKind, is_passed, is_task, no_task, task_at}
 
@@ -146,22 +146,25 @@ module _ (test : Task → Bool) where
       or_right (test task) (list_any test tasks) (some_in tasks (omega (arith, one, count-cons task tasks, none))) in
       ⊎_elim if_here if_not (cases_Bool (test task))
 
-module _ (ordered : Ordered) (turns : List ℕ) (routes : List Route) where
+module _ (ordered : Ordered) (turns : Turns) (routes : List Route) (long : length turns.routes.items ≡ length routes) where
   -- the turns of gates and of routes
   abbrev gate_turn : ℕ → ℕ
-  gate_turn number = slice_index turns (ordered.flat.inputs + number)
+  gate_turn number = slice_index turns.nets.items (ordered.flat.inputs + number)
 
-  abbrev route_turn : Route → ℕ
-  route_turn route = slice_index turns route.net
+  abbrev route_turn : ℕ → ℕ
+  route_turn turn = turn
+
+  abbrev route_turns : List ℕ
+  route_turns = turns.routes.items
 
   abbrev gate_tasks : List Task
   gate_tasks = tasks_from gate_turn false 0 ordered.order
 
   abbrev sendings : List Task
-  sendings = tasks_from route_turn true 0 routes
+  sendings = tasks_from route_turn true 0 route_turns
 
   abbrev all : List Task
-  all = all_tasks ordered turns routes
+  all = all_tasks ordered turns
 
   both : (sends : Bool) (place : ℕ) → times_listed sends place all ≡ times_listed sends place gate_tasks + times_listed sends place sendings
   both sends place = sum_by-append (λ (one : Task). one_if (is_task sends place one)) gate_tasks sendings
@@ -170,11 +173,11 @@ module _ (ordered : Ordered) (turns : List ℕ) (routes : List Route) where
   no_gate place = none_of_other gate_turn false true place 0 ordered.order (λ task is. is_task-false true place task (λ other _. true≢false (sym other ∙ is)))
 
   no_sending : (place : ℕ) → times_listed false place sendings ≡ 0
-  no_sending place = none_of_other route_turn true false place 0 routes (λ task is. is_task-false false place task (λ other _. true≢false (sym is ∙ other)))
+  no_sending place = none_of_other route_turn true false place 0 route_turns (λ task is. is_task-false false place task (λ other _. true≢false (sym is ∙ other)))
 
   few_all : (sends : Bool) (place : ℕ) → times_listed sends place all ≤ 1
   few_all false place = omega (arith, both false place, no_sending place, at_most_one gate_turn false place 0 ordered.order)
-  few_all true place = omega (arith, both true place, no_gate place, at_most_one route_turn true place 0 routes)
+  few_all true place = omega (arith, both true place, no_gate place, at_most_one route_turn true place 0 route_turns)
 
   -- a task is for what its kind says
   abbrev IsOfOwnKind : Task → Type 0
@@ -187,14 +190,11 @@ module _ (ordered : Ordered) (turns : List ℕ) (routes : List Route) where
       let inside : 0 + at < length ordered.order = omega (arith, slice_get_within ordered.order at number is) in
       let number_is = ap (λ (place : ℕ). get_or ordered.order place 0) same ∙ get_or_from_slice_get ordered.order at number 0 is in
       (inside, ap gate_turn (sym number_is))))
-      (all_made route_turn IsOfOwnKind true 0 routes (λ at one is.
+      (all_made route_turn IsOfOwnKind true 0 route_turns (λ at one is.
       let same : 0 + at ≡ at = omega arith in
-      let inside : 0 + at < length routes = omega (arith, slice_get_within routes at one is) in (
-        inside,
-        λ route found.
-            let both_are : Some one ≡ Some route = sym is ∙ ap (slice_get routes) (sym same) ∙ found in
-            ap route_turn (same_Some one route both_are),
-      )))
+      let inside : 0 + at < length routes = omega (arith, slice_get_within route_turns at one is, long) in
+      let turn_is = ap (λ (place : ℕ). get_or route_turns place 0) same ∙ get_or_from_slice_get route_turns at one 0 is in
+      (inside, sym turn_is)))
 
   module _ (tasks : List Task) (same : IsPermutation all tasks) where
     as_many : (sends : Bool) (place : ℕ) → times_listed sends place tasks ≡ times_listed sends place all
@@ -223,7 +223,7 @@ module _ (ordered : Ordered) (turns : List ℕ) (routes : List Route) where
           let one = one_within gate_turn false place 0 ordered.order (omega arith) (omega (arith, within)) in
           is_there false place (omega (arith, both false place, no_sending place, one));
       routed = λ number within.
-          let one = one_within route_turn true number 0 routes (omega arith) (omega (arith, within)) in
+          let one = one_within route_turn true number 0 route_turns (omega arith) (omega (arith, within, long)) in
           is_there true number (omega (arith, both true number, no_gate number, one));
       rising = rising;
     }

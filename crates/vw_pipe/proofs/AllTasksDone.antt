@@ -22,6 +22,7 @@ use Rattle.vw_plan.specs.Walks.{IsWalk}
 use Rattle.vw_slots.specs.Slots.{is_pin_taken}
 use Rattle.vw_pipe.specs.declared.draft.Draft.{Draft}
 use Rattle.vw_pipe.specs.declared.task.Task.{Task}
+use Rattle.vw_pipe.specs.declared.turns.Turns.{Turns}
 use Rattle.vw_pipe.specs.Steps.SentHops.{AreSent, hop_link}
 use Rattle.vw_pipe.specs.Steps.FinishedSchedules.{IsAlong, IsTasksDone, IsSentWell, all_hops, uses}
 use Rattle.vw_pipe.specs.Steps.Drafts.{hops_at}
@@ -54,14 +55,14 @@ low_bit true = omega arith
 low_bit false = omega arith
 
 -- all tasks are done
-record IsAllDone (ordered : Ordered) (board : Board) (chip_of : List ℕ) (routes : List Route) (turns : List ℕ) (tasks : List Task)
+record IsAllDone (ordered : Ordered) (board : Board) (chip_of : List ℕ) (routes : List Route) (turns : Turns) (tasks : List Task)
     (count : ℕ) (draft : Draft) : Type 0 where
   routes_are : AreRoutes ordered.flat board chip_of routes
   tasks_are : AreTasks ordered turns routes tasks
   whole : length tasks ≤ count
   way : IsUnderway ordered board chip_of routes tasks count draft
 
-module _ {ordered : Ordered} {board : Board} {chip_of : List ℕ} {routes : List Route} {turns : List ℕ} {tasks : List Task} {count : ℕ} {draft : Draft}
+module _ {ordered : Ordered} {board : Board} {chip_of : List ℕ} {routes : List Route} {turns : Turns} {tasks : List Task} {count : ℕ} {draft : Draft}
     (all : IsAllDone ordered board chip_of routes turns tasks count draft) where
   all_taken : take count tasks ≡ take (length tasks) tasks
   all_taken = take_all count tasks all.whole ∙ sym (take_all (length tasks) tasks (omega arith))
@@ -105,7 +106,7 @@ module _ {ordered : Ordered} {board : Board} {chip_of : List ℕ} {routes : List
 
 -- ---- with a plan
 
-module _ {ordered : Ordered} {board : Board} (plan : Plan) {routes : List Route} {turns : List ℕ} {tasks : List Task} {count : ℕ} {draft : Draft}
+module _ {ordered : Ordered} {board : Board} (plan : Plan) {routes : List Route} {turns : Turns} {tasks : List Task} {count : ℕ} {draft : Draft}
     (all : IsAllDone ordered board plan.chip_of routes turns tasks count draft) (wires : plan.wires ≡ wires_of routes draft.hops.items) where
   abbrev planned : PlannedBoard
   planned = planned_board ordered board plan
@@ -159,7 +160,7 @@ module _ {ordered : Ordered} {board : Board} (plan : Plan) {routes : List Route}
 
 -- ---- all of it
 
-pub finished : (ordered : Ordered) (board : Board) (chip_of : List ℕ) (routes : List Route) (turns : List ℕ) (tasks : List Task) (count : ℕ) (draft : Draft)
+pub finished : (ordered : Ordered) (board : Board) (chip_of : List ℕ) (routes : List Route) (turns : Turns) (tasks : List Task) (count : ℕ) (draft : Draft)
     → AreRoutes ordered.flat board chip_of routes → AreTasks ordered turns routes tasks → length tasks ≤ count
     → IsUnderway ordered board chip_of routes tasks count draft → IsTasksDone ordered board chip_of routes draft
 finished ordered board chip_of routes turns tasks count draft routes_are tasks_are whole way =

@@ -7,6 +7,7 @@ use Rattle.vw_plan.specs.declared.board.Board.{Board}
 use Rattle.vw_plan.specs.declared.need.Route.{Route}
 use Rattle.vw_plan.specs.Routes.{AreRoutes}
 use Rattle.vw_pipe.specs.declared.task.Task.{Task}
+use Rattle.vw_pipe.specs.declared.turns.Turns.{Turns}
 use Rattle.vw_pipe.specs.Steps.Tasks.{IsAtMost, task_rank}
 use Rattle.vw_pipe.specs.Steps.Turns.{AreTurns}
 use Rattle.vw_pipe.specs.Steps.Underway.{AreTasks, IsOfKind, is_passed, is_task, no_task, task_at}
@@ -94,7 +95,7 @@ module _ (tasks : List Task) where
       let if_before = done_before count more sends place (omega (arith, within)) none in
       ⊎_elim if_before (λ is. absurd (true≢false (sym is ∙ not_last))) either
 
-module _ {ordered : Ordered} {turns : List ℕ} {routes : List Route} {tasks : List Task} (are : AreTasks ordered turns routes tasks) where
+module _ {ordered : Ordered} {turns : Turns} {routes : List Route} {tasks : List Task} (are : AreTasks ordered turns routes tasks) where
   -- what a task is for
   pub kind_at : (at : ℕ) (sends : Bool) → at < length tasks → (task_at tasks at).sends ≡ sends → IsOfKind ordered turns routes sends (task_at tasks at)
   kind_at at sends within is = subst (λ (kind : Bool). IsOfKind ordered turns routes kind (task_at tasks at)) is (are.kinds at within)
@@ -129,8 +130,8 @@ module _ {ordered : Ordered} {turns : List ℕ} {routes : List Route} {tasks : L
         done_before tasks count (all - count) sends place (omega (arith, is, within)) none (ap (λ (n : ℕ). is_passed tasks n sends place) sum ∙ done)
 
 -- tasks in an order that goes with the turns of the nets, for routes that the chips of the cells need
-pub record IsAgenda (ordered : Ordered) (board : Board) (chip_of : List ℕ) (routes : List Route) (turns : List ℕ) (tasks : List Task) : Type 0 where
+pub record IsAgenda (ordered : Ordered) (board : Board) (chip_of : List ℕ) (routes : List Route) (turns : Turns) (tasks : List Task) : Type 0 where
   pub each : length chip_of ≡ length ordered.flat.cells
-  pub behind : AreTurns ordered turns
+  pub kept : AreTurns ordered chip_of routes turns
   pub tasks_are : AreTasks ordered turns routes tasks
   pub routes_are : AreRoutes ordered.flat board chip_of routes

@@ -15,6 +15,7 @@ use Rattle.vw_plan.specs.Nets.{driving_cell}
 use Rattle.vw_plan.specs.Routes.{steps_of}
 use Rattle.vw_pipe.specs.declared.draft.Draft.{Draft}
 use Rattle.vw_pipe.specs.declared.task.Task.{Task}
+use Rattle.vw_pipe.specs.declared.turns.Turns.{Turns}
 use Rattle.vw_pipe.specs.Steps.SentHops.{AreSent}
 use Rattle.vw_pipe.specs.Steps.Drafts.{HasLead, hops_at, microcycle_limit}
 use Rattle.vw_pipe.specs.Steps.Underway.{IsSentOff, IsUnderway, is_passed, is_task, lead_at_place, task_at}
@@ -56,7 +57,7 @@ one_place ordered one other within other_within same =
     (λ more. absurd (ordered.is_order.once other one more within (sym same))) in
     ⊎_elim (λ is. is) if_apart (cases_order one other)
 
-module _ {ordered : Ordered} {board : Board} {chip_of : List ℕ} {routes : List Route} {turns : List ℕ} {tasks : List Task}
+module _ {ordered : Ordered} {board : Board} {chip_of : List ℕ} {routes : List Route} {turns : Turns} {tasks : List Task}
     (agenda : IsAgenda ordered board chip_of routes turns tasks) {count : ℕ} (within : count < length tasks) where
   -- a route whose hops are sent has its lead
   pub home_done : (number : ℕ) (route : Route) → slice_get routes number ≡ Some route → is_passed tasks count true number ≡ true

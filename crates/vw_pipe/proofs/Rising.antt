@@ -5,8 +5,8 @@ use Rattle.std.specs.Ordering.{bool_cmp, nat_cmp, ordering_then, is_lt}
 use Rattle.std.specs.declared.cmp.Ordering.{Ordering}
 use Rattle.std.specs.declared.cmp.Ordering.TheVariants.{Less, Equal, Greater}
 use Rattle.vw_net.specs.declared.ordered.Ordered.{Ordered}
-use Rattle.vw_plan.specs.declared.need.Route.{Route}
 use Rattle.vw_pipe.specs.declared.task.Task.{Task}
+use Rattle.vw_pipe.specs.declared.turns.Turns.{Turns}
 use Rattle.vw_pipe.specs.Steps.Tasks.{AreRising, IsAtMost, all_tasks, task_rank, tasks_from}
 
 abbrev pub task_cmp : Task → Task → Ordering
@@ -80,12 +80,12 @@ rising_from_sorted tasks sorted i j d before within =
     subst (λ (at : ℕ). IsAtMost (get_or tasks i d) (get_or tasks at d)) next (rising_at tasks sorted i (j - suc i) d (omega (arith, before, within)))
 
 -- the lists of both kinds of tasks are all tasks
-pub same_tasks : (ordered : Ordered) (turns : List ℕ) (routes : List Route) (none leads sends : List Task) → none ≡ []
-    → leads ≡ none ++ tasks_from (λ number. slice_index turns (ordered.flat.inputs + number)) false 0 ordered.order
-    → sends ≡ leads ++ tasks_from (λ route. slice_index turns route.net) true 0 routes
-    → sends ≡ all_tasks ordered turns routes
-same_tasks ordered turns routes none leads sends empty leads_are sends_are =
-    let gate_tasks = tasks_from (λ (number : ℕ). slice_index turns (ordered.flat.inputs + number)) false 0 ordered.order in
-    let route_tasks = tasks_from (λ (route : Route). slice_index turns route.net) true 0 routes in
+pub same_tasks : (ordered : Ordered) (turns : Turns) (none leads sends : List Task) → none ≡ []
+    → leads ≡ none ++ tasks_from (λ number. slice_index turns.nets.items (ordered.flat.inputs + number)) false 0 ordered.order
+    → sends ≡ leads ++ tasks_from (λ turn. turn) true 0 turns.routes.items
+    → sends ≡ all_tasks ordered turns
+same_tasks ordered turns none leads sends empty leads_are sends_are =
+    let gate_tasks = tasks_from (λ (number : ℕ). slice_index turns.nets.items (ordered.flat.inputs + number)) false 0 ordered.order in
+    let route_tasks = tasks_from (λ (turn : ℕ). turn) true 0 turns.routes.items in
     let leads_only = leads_are ∙ ap (λ (list : List Task). list ++ gate_tasks) empty in
     sends_are ∙ ap (λ (list : List Task). list ++ route_tasks) leads_only

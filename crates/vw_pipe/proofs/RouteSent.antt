@@ -20,6 +20,7 @@ use Rattle.vw_slots.specs.declared.slot.Taken.{Taken}
 use Rattle.vw_slots.specs.Slots.{is_pin_taken}
 use Rattle.vw_pipe.specs.declared.draft.Draft.{Draft}
 use Rattle.vw_pipe.specs.declared.task.Task.{Task}
+use Rattle.vw_pipe.specs.declared.turns.Turns.{Turns}
 use Rattle.vw_pipe.specs.Steps.SentHops.{AreSent, hop_link, hop_takes}
 use Rattle.vw_pipe.specs.Steps.FinishedSchedules.{all_hops, uses}
 use Rattle.vw_pipe.specs.Steps.Drafts.{DoesTask, IsEarly, IsSentMore, hops_at, microcycle_limit}
@@ -55,7 +56,7 @@ settle_low : (board : Board) (bit : Bool) → (if bit then board.settle else 0) 
 settle_low board true = board.quick
 settle_low board false = omega arith
 
-module _ {ordered : Ordered} {board : Board} {chip_of : List ℕ} {routes : List Route} {turns : List ℕ} {tasks : List Task}
+module _ {ordered : Ordered} {board : Board} {chip_of : List ℕ} {routes : List Route} {turns : Turns} {tasks : List Task}
     (agenda : IsAgenda ordered board chip_of routes turns tasks) {count : ℕ} (within : count < length tasks)
     {draft : Draft} (way : IsUnderway ordered board chip_of routes tasks count draft) (sends : (task_at tasks count).sends ≡ true) where
   abbrev number : ℕ

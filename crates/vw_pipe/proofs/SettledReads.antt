@@ -1,10 +1,13 @@
 -- What a task rests on is done before it.
-use Rattle.std.proofs.Common.{◌≡◌, ◌<◌, ◌≤◌, ◌+◌, ◌-◌, ◌∙◌, ◌∷◌, ◌&&◌, ◌||◌, ℕ, zero, suc, Bool, true, false, not, List, [], length, map, get_or, eqb, nat_lt, if◌then◌else◌, slice_get, slice_index, Option, Some, None, ap, refl, sym, subst, ⊎_elim, true≢false, arith, eqb-true, eq-eqb}
+use Rattle.std.proofs.Common.{◌≡◌, ◌<◌, ◌≤◌, ◌+◌, ◌-◌, ◌∙◌, ◌∷◌, ◌&&◌, ◌||◌, ℕ, zero, suc, Bool, true, false, not, List, [], length, map, get_or, eqb, nat_lt, if◌then◌else◌, slice_get, slice_index, Option, Some, None, ap, ap₂, refl, sym, subst, ⊎_elim, true≢false, arith, eqb-true, eq-eqb}
 use Rattle.std.specs.List.{list_any}
 use Rattle.std.proofs.lemmas.Bool.{and_from, and_parts, cases_Bool, cases_lt, lt-ltb, ne_eqb, or_left}
 use Rattle.std.proofs.lemmas.List.Folds.{list_any_at}
 use Rattle.std.proofs.lemmas.Option.{slice_get-get_or, slice_get_within}
-use Rattle.vw_net.proofs.Orders.{among_at}
+use Rattle.vw_net.proofs.Orders.{among_at, eqb_comm}
+use Rattle.vw_net.specs.FirstFound.{found_if}
+use Rattle.std.specs.Option.{option_or}
+use Rattle.vw_ready.specs.Pairs.{first_pair, is_number_pair}
 use Rattle.vw_net.specs.declared.cell.Cell.{Cell}
 use Rattle.vw_net.specs.declared.cell.Cell.TheVariants.{Gate, Latch}
 use Rattle.vw_net.specs.declared.flat.Flat.{Flat}
@@ -18,6 +21,9 @@ use Rattle.vw_plan.specs.Routes.{need_of_route}
 use Rattle.vw_plan.proofs.NeededPairs.{any-needed_pairs}
 use Rattle.vw_plan.proofs.ReadNets.{read_there}
 use Rattle.vw_pipe.specs.declared.task.Task.{Task}
+use Rattle.vw_pipe.specs.declared.turns.Turns.{Turns}
+use Rattle.vw_pipe.specs.Steps.Leads.{route_pairs}
+use Rattle.vw_pipe.specs.Steps.Turns.{ComesBefore}
 use Rattle.vw_pipe.specs.Steps.Underway.{is_passed, task_at}
 use Rattle.vw_pipe.proofs.DoneTasks.{IsAgenda, done_earlier, done_later, kind_at}
 use Rattle.vw_pipe.proofs.UntouchedMicrocycles.{IsHomeDone, ReadsRestOnDone, RestsOnDone, route_place}
@@ -50,23 +56,42 @@ reads_among (Some (Latch d init)) place default within = absurd (omega (arith, w
 abbrev is_listed : List Route → ℕ → ℕ → Bool
 is_listed routes net node = list_any (is_pair net node) (map need_of_route routes)
 
--- the first route that brings a net to a node is one of the routes
+-- the first route that brings a net to a node is one of the routes, and the first of the pair
 abbrev HasRoute : List Route → ℕ → ℕ → Type 0
 HasRoute routes net node = (route_place routes net node < length routes)
-    × ((route : Route) → slice_get routes (route_place routes net node) ≡ Some route → route.net ≡ net)
+    × (first_pair 0 (route_pairs routes) net node ≡ Some (route_place routes net node))
+
+-- the same of routes that are numbered from a number on
+abbrev HasRouteFrom : ℕ → List Route → ℕ → ℕ → Type 0
+HasRouteFrom from routes net node = (route_place routes net node < length routes)
+    × (first_pair from (route_pairs routes) net node ≡ Some (from + route_place routes net node))
 
 -- a pair that is listed has a route
-place_listed : (routes : List Route) (net node : ℕ) → is_listed routes net node ≡ true → HasRoute routes net node
-place_listed [] net node listed = absurd (true≢false (sym listed))
-place_listed (first ∷ routes) net node listed = by (eqb first.net net && eqb first.to node) refl (place_listed routes net node) where
-  by : (here : Bool) → (eqb first.net net && eqb first.to node) ≡ here → (is_listed routes net node ≡ true → HasRoute routes net node)
-      → HasRoute (first ∷ routes) net node
+listed_from : (from : ℕ) (routes : List Route) (net node : ℕ) → is_listed routes net node ≡ true → HasRouteFrom from routes net node
+listed_from from [] net node listed = absurd (true≢false (sym listed))
+listed_from from (first ∷ routes) net node listed = by (eqb first.net net && eqb first.to node) refl (listed_from (suc from) routes net node) where
+  found_in : Bool → Option ℕ
+  found_in here = option_or (found_if here from) (first_pair (suc from) (route_pairs routes) net node)
+
+  turned : is_number_pair net node (first.net, first.to) ≡ (eqb first.net net && eqb first.to node)
+  turned = ap₂ (λ (one other : Bool). one && other) (eqb_comm net first.net) (eqb_comm node first.to)
+
+  by : (here : Bool) → (eqb first.net net && eqb first.to node) ≡ here → (is_listed routes net node ≡ true → HasRouteFrom (suc from) routes net node)
+      → HasRouteFrom from (first ∷ routes) net node
   by true is more =
-      let first_net : first.net ≡ net = eqb-true first.net net (and_parts (eqb first.net net) (eqb first.to node) is).0 in
-      rw is (omega arith, λ route at. let same : first ≡ route = cc in sym (ap (λ (r : Route). r.net) same) ∙ first_net)
+      let own : from + 0 ≡ from = omega arith in
+      rw is (omega arith, ap found_in (turned ∙ is) ∙ ap Some (sym own))
   by false is more =
       let rest = more (sym (ap (λ (bit : Bool). bit || is_listed routes net node) is) ∙ listed) in
-      rw is (omega (arith, rest.0), rest.1)
+      let place = route_place routes net node in
+      let next : suc from + place ≡ from + suc place = omega arith in
+      rw is (omega (arith, rest.0), ap found_in (turned ∙ is) ∙ rest.1 ∙ ap Some next)
+
+place_listed : (routes : List Route) (net node : ℕ) → is_listed routes net node ≡ true → HasRoute routes net node
+place_listed routes net node listed =
+    let found = listed_from 0 routes net node listed in
+    let same : 0 + route_place routes net node ≡ route_place routes net node = omega arith in
+    (found.0, found.1 ∙ ap Some same)
 
 -- what is done stays done
 pub done_to : (tasks : List Task) (from more : ℕ) (sends : Bool) (place : ℕ) → from + more ≤ length tasks
@@ -85,7 +110,7 @@ done_by tasks from to sends place before within done =
     let sum : from + (to - from) ≡ to = omega (arith, before) in
     ap (λ (n : ℕ). is_passed tasks n sends place) (sym sum) ∙ done_to tasks from (to - from) sends place (omega (arith, sum, within)) done
 
-module _ {ordered : Ordered} {board : Board} {chip_of : List ℕ} {routes : List Route} {turns : List ℕ} {tasks : List Task}
+module _ {ordered : Ordered} {board : Board} {chip_of : List ℕ} {routes : List Route} {turns : Turns} {tasks : List Task}
     (agenda : IsAgenda ordered board chip_of routes turns tasks) where
   -- the net of the gate at a place of the order
   abbrev net_at : ℕ → ℕ
@@ -112,14 +137,14 @@ module _ {ordered : Ordered} {board : Board} {chip_of : List ℕ} {routes : List
     λ away. done_by tasks from to true (route_place routes net node) before within (settled.1 away),
   )
 
-  -- routes of earlier nets are sent before a task
-  pub sooner_before : (at : ℕ) → at < length tasks → (number : ℕ) (route : Route) → slice_get routes number ≡ Some route
-      → slice_index turns route.net < (task_at tasks at).turn → is_passed tasks at true number ≡ true
-  sooner_before at within number route is less =
-      let in_the_end = agenda.tasks_are.routed number (slice_get_within routes number route is) in
-      done_earlier agenda.tasks_are at true number within in_the_end (λ other inside sends place most.
-      let kind = kind_at agenda.tasks_are other true inside sends in
-      let its_turn : (task_at tasks other).turn ≡ slice_index turns route.net = kind.1 route (ap (slice_get routes) place ∙ is) in
+  -- routes of earlier turns are sent before a task
+  pub sooner_before : (at : ℕ) → at < length tasks → (number : ℕ) → number < length routes
+      → slice_index turns.routes.items number < (task_at tasks at).turn → is_passed tasks at true number ≡ true
+  sooner_before at within number inside less =
+      let in_the_end = agenda.tasks_are.routed number inside in
+      done_earlier agenda.tasks_are at true number within in_the_end (λ other other_inside sends place most.
+      let kind = kind_at agenda.tasks_are other true other_inside sends in
+      let its_turn : (task_at tasks other).turn ≡ slice_index turns.routes.items number = kind.1 ∙ ap (slice_index turns.routes.items) place in
       omega (arith, less, its_turn, most.turns))
 
   -- the place of a gate's net
@@ -134,10 +159,10 @@ module _ {ordered : Ordered} {board : Board} {chip_of : List ℕ} {routes : List
 
   -- the turn of the task for the gate of a net
   lead_turn : (at place net : ℕ) → at < length tasks → (task_at tasks at).sends ≡ false → (task_at tasks at).place ≡ place
-      → net ≡ ordered.flat.inputs + slice_index ordered.order place → (task_at tasks at).turn ≡ slice_index turns net
+      → net ≡ ordered.flat.inputs + slice_index ordered.order place → (task_at tasks at).turn ≡ slice_index turns.nets.items net
   lead_turn at place net within sends is net_is =
       let kind = kind_at agenda.tasks_are at false within sends in
-      kind.1 ∙ ap (λ (p : ℕ). slice_index turns (net_at p)) is ∙ ap (slice_index turns) (sym net_is)
+      kind.1 ∙ ap (λ (p : ℕ). slice_index turns.nets.items (net_at p)) is ∙ ap (slice_index turns.nets.items) (sym net_is)
 
   -- the lead of a net is worked out before its hops are sent
   pub home_before : (at number : ℕ) (route : Route) → at < length tasks → (task_at tasks at).sends ≡ true → (task_at tasks at).place ≡ number
@@ -145,11 +170,12 @@ module _ {ordered : Ordered} {board : Board} {chip_of : List ℕ} {routes : List
   home_before at number route within sends place is gate =
       let found = gate_place route.net gate in
       let own = kind_at agenda.tasks_are at true within sends in
-      let its_turn : (task_at tasks at).turn ≡ slice_index turns route.net = own.1 route (ap (slice_get routes) place ∙ is) in
+      let its_turn : (task_at tasks at).turn ≡ slice_index turns.routes.items number = own.1 ∙ ap (slice_index turns.routes.items) place in
+      let late = agenda.kept.sent.late number route is in
       let in_the_end = agenda.tasks_are.gates found.0 found.1 in
       let done = done_earlier agenda.tasks_are at false found.0 within in_the_end (λ other inside other_sends other_place most.
       let same = lead_turn other found.0 route.net inside other_sends other_place found.2 in
-      let ranks = most.kinds (its_turn ∙ sym same) in
+      let ranks = most.kinds (omega (arith, its_turn, late, same, most.turns)) in
       let no : 1 ≤ 0 = rw (sends, other_sends) at ranks in
       omega (arith, no)) in
       (found.0, found.1, found.2, done)
@@ -164,8 +190,15 @@ module _ {ordered : Ordered} {board : Board} {chip_of : List ℕ} {routes : List
     place_within : place < length ordered.order
     place_within = subst (λ (p : ℕ). p < length ordered.order) is (kind_at agenda.tasks_are at false within sends).0
 
-    sooner : (turn default : ℕ) → turn < length (reads_at place) → slice_index turns (read turn default) < (task_at tasks at).turn
-    sooner turn default inside = omega (arith, agenda.behind place place_within turn default inside, lead_turn at place (net_at place) within sends is refl)
+    before : (turn default : ℕ) → turn < length (reads_at place)
+        → ComesBefore routes turns.nets.items turns.routes.items (node_at place) (slice_index turns.nets.items (net_at place)) (read turn default)
+    before turn default inside = agenda.kept.gates place place_within turn default inside
+
+    its_turn : (task_at tasks at).turn ≡ slice_index turns.nets.items (net_at place)
+    its_turn = lead_turn at place (net_at place) within sends is refl
+
+    sooner : (turn default : ℕ) → turn < length (reads_at place) → slice_index turns.nets.items (read turn default) < (task_at tasks at).turn
+    sooner turn default inside = omega (arith, (before turn default inside).own, its_turn)
 
     at_home : (turn default : ℕ) → turn < length (reads_at place) → node_of ordered.flat chip_of (read turn default) ≡ node_at place
         → IsHomeDone ordered board chip_of routes tasks at (read turn default)
@@ -192,9 +225,5 @@ module _ {ordered : Ordered} {board : Board} {chip_of : List ℕ} {routes : List
         let listed : is_listed routes net node ≡ true = same_pairs ∙ any-needed_pairs ordered.flat chip_of net node ∙ needed in
         let placed = place_listed routes net node listed in
         let its_place = route_place routes net node in
-        let no_route : Route = record { net = 0; to = 0; nodes = [] } in
-        let route = get_or routes its_place no_route in
-        let there : slice_get routes its_place ≡ Some route = slice_get-get_or routes its_place no_route placed.0 in
-        let its_net : route.net ≡ net = placed.1 route there in
-        let less : slice_index turns route.net < (task_at tasks at).turn = omega (arith, sooner turn default inside, ap (slice_index turns) its_net) in
-        sooner_before at within its_place route there less
+        let less = (before turn default inside).brought its_place placed.1 in
+        sooner_before at within its_place placed.0 (omega (arith, less, its_turn))

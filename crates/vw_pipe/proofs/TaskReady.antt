@@ -18,6 +18,7 @@ use Rattle.vw_plan.specs.Walks.{IsWalk}
 use Rattle.vw_slots.specs.declared.slot.Taken.{Taken}
 use Rattle.vw_pipe.specs.declared.draft.Draft.{Draft}
 use Rattle.vw_pipe.specs.declared.task.Task.{Task}
+use Rattle.vw_pipe.specs.declared.turns.Turns.{Turns}
 use Rattle.vw_pipe.specs.Steps.SentHops.{AreLinked, AreSent, hop_takes}
 use Rattle.vw_pipe.specs.Steps.FinishedSchedules.{all_hops}
 use Rattle.vw_pipe.specs.Steps.Drafts.{IsDraftReady, IsReadyKind, hops_at}
@@ -96,7 +97,7 @@ few_more (first ∷ routes) (sent ∷ hops) long few (suc number) route at none 
     let rest = few_more routes hops (omega (arith, long)) (λ place other there. few (suc place) other there) number route at none in
     omega (arith, count-cons first routes, hops-cons sent hops, few 0 first refl, rest)
 
-module _ {ordered : Ordered} {board : Board} {chip_of : List ℕ} {routes : List Route} {turns : List ℕ} {tasks : List Task}
+module _ {ordered : Ordered} {board : Board} {chip_of : List ℕ} {routes : List Route} {turns : Turns} {tasks : List Task}
     (agenda : IsAgenda ordered board chip_of routes turns tasks)
     {count : ℕ} (within : count < length tasks) {draft : Draft} (way : IsUnderway ordered board chip_of routes tasks count draft) where
   -- hops so far are no more than steps

@@ -1,7 +1,9 @@
--- Turns by the order of the gates can be kept.
+-- Turns by the order of the gates can be kept, and routes go with their nets.
 use Rattle.std.proofs.Common.{◌≡◌, ◌<◌, ◌≤◌, ◌+◌, ◌-◌, ◌∙◌, ◌∷◌, ◌||◌, ℕ, zero, suc, Bool, true, false, List, [], length, take, replicate, get_or, set, eqb, nat_lt, if◌then◌else◌, slice_get, slice_index, Option, Some, None, ap, refl, sym, ⊎_elim, true≢false, arith, eqb-true, lt-ltb}
 use Rattle.std.specs.List.{All}
-use Rattle.std.proofs.lemmas.Bool.{cases_Bool, cases_eq, cases_lt, or_cases}
+use Rattle.std.specs.Option.{option_or}
+use Rattle.std.proofs.lemmas.Option.{get_or_from_slice_get, same_Some}
+use Rattle.std.proofs.lemmas.Bool.{and_parts, cases_Bool, cases_eq, cases_lt, or_cases}
 use Rattle.std.proofs.lemmas.Grind.{get_or-set_at}
 use Rattle.std.proofs.lemmas.List.{get_or_past, get_or-replicate, get_or-set_other, length-replicate, length-set}
 use Rattle.std.proofs.lemmas.List.Sums.{AllPass-from_list_all}
@@ -12,7 +14,12 @@ use Rattle.vw_net.specs.Order.{gate_inputs, is_among, is_gate, is_latch, is_read
 use Rattle.vw_net.proofs.ReadyNets.{order_within}
 use Rattle.vw_plan.specs.Nets.{driving_cell}
 use Rattle.vw_plan.proofs.AlongOrder.{All-gate_reads}
-use Rattle.vw_pipe.specs.Steps.Turns.{AreTurns}
+use Rattle.vw_net.specs.FirstFound.{found_if}
+use Rattle.vw_plan.specs.declared.need.Route.{Route}
+use Rattle.vw_ready.specs.Pairs.{first_pair, is_number_pair}
+use Rattle.vw_pipe.specs.declared.turns.Turns.{Turns}
+use Rattle.vw_pipe.specs.Steps.Leads.{route_pairs}
+use Rattle.vw_pipe.specs.Steps.Turns.{AreBehind, AreTurns}
 use Rattle.vw_pipe.proofs.LeadWorked.{gate_in_order, one_place}
 
 -- a number stands at one of the first places of a list
@@ -119,7 +126,7 @@ module _ (ordered : Ordered) where
       ⊎_elim if_latch if_done (or_cases (is_latch cell) is_before rest) in
       ⊎_elim if_input if_past (cases_Bool (nat_lt net inputs))
 
-  pub turns_kept : (turns : List ℕ) → HasTurns (length ordered.order) turns → AreTurns ordered turns
+  pub turns_kept : (turns : List ℕ) → HasTurns (length ordered.order) turns → AreBehind ordered turns
   turns_kept turns has place within =
       let cell = slice_get ordered.flat.cells (slice_index ordered.order place) in
       let is_done = is_ready ordered.flat.inputs ordered.flat.cells (take place ordered.order) in
@@ -128,3 +135,54 @@ module _ (ordered : Ordered) where
       λ turn default inside.
       let sooner = ready_sooner place turns within has (get_or (gate_inputs cell) turn default) (ready turn default inside) in
       omega (arith, sooner, has.gates place within within)
+
+-- ---- turns of nets, and of each route that of its net
+
+-- the first route of a pair brings its net
+abbrev BringsFrom : ℕ → List Route → ℕ → ℕ → Type 0
+BringsFrom from routes net place = (from ≤ place) × (route : Route) × (slice_get routes (place - from) ≡ Some route) × (route.net ≡ net)
+
+first_brings : (from place net node : ℕ) (routes : List Route) → first_pair from (route_pairs routes) net node ≡ Some place → BringsFrom from routes net place
+first_brings from place net node [] is = cc
+first_brings from place net node (first ∷ routes) is = by (is_number_pair net node (first.net, first.to)) refl (first_brings (suc from) place net node routes) where
+  found_in : Bool → Option ℕ
+  found_in here = option_or (found_if here from) (first_pair (suc from) (route_pairs routes) net node)
+
+  by : (here : Bool) → is_number_pair net node (first.net, first.to) ≡ here
+      → (first_pair (suc from) (route_pairs routes) net node ≡ Some place → BringsFrom (suc from) routes net place)
+      → BringsFrom from (first ∷ routes) net place
+  by true here more =
+      let found : Some from ≡ Some place = sym (ap found_in here) ∙ is in
+      let same : from ≡ place = same_Some from place found in
+      let own : place - from ≡ 0 = omega (arith, same) in
+      let its_net = eqb-true net first.net (and_parts (eqb net first.net) (eqb node first.to) here).0 in
+      (omega (arith, same), first, ap (slice_get (first ∷ routes)) own, sym its_net)
+  by false here more =
+      let rest = more (sym (ap found_in here) ∙ is) in
+      let later : place - from ≡ suc (place - suc from) = omega (arith, rest.0) in
+      (omega (arith, rest.0), rest.1, ap (slice_get (first ∷ routes)) later ∙ rest.2, rest.3)
+
+module _ (ordered : Ordered) (chip_of : List ℕ) (routes : List Route) (own : List ℕ) (turns : Turns) (same : turns.nets.items ≡ own)
+    (its : (number : ℕ) (route : Route) → slice_get routes number ≡ Some route → slice_get turns.routes.items number ≡ Some (slice_index own route.net)) where
+  net_turn : (net : ℕ) → slice_index turns.nets.items net ≡ slice_index own net
+  net_turn net = ap (λ (list : List ℕ). slice_index list net) same
+
+  route_turn : (number : ℕ) (route : Route) → slice_get routes number ≡ Some route → slice_index turns.routes.items number ≡ slice_index own route.net
+  route_turn number route at = get_or_from_slice_get turns.routes.items number (slice_index own route.net) 0 (its number route at)
+
+  pub turns_of_nets : AreBehind ordered own → length turns.routes.items ≡ length routes → AreTurns ordered chip_of routes turns
+  turns_of_nets behind long = record {
+    gates = λ place within turn default inside.
+        let read = get_or (gate_inputs (slice_get ordered.flat.cells (slice_index ordered.order place))) turn default in
+        let its_net = ordered.flat.inputs + slice_index ordered.order place in
+        let before = behind place within turn default inside in
+        record {
+          own = omega (arith, before, net_turn read, net_turn its_net);
+          brought = λ number found.
+              let brings = first_brings 0 number read _ routes found in
+              let none : number - 0 ≡ number = omega arith in
+              let at = ap (slice_get routes) (sym none) ∙ brings.2 in
+              omega (arith, before, net_turn its_net, route_turn number brings.1 at, ap (slice_index own) brings.3);
+        };
+    sent = record { long = long; late = λ number route at. omega (arith, net_turn route.net, route_turn number route at) };
+  }

@@ -4,12 +4,13 @@ ghost use Rattle.std.specs.List.{All};
 ghost use Rattle.vw_plan.specs.Chips.{IsChip};
 ghost use Rattle.vw_plan.specs.Nets.{greatest_read};
 ghost use Rattle.vw_plan.specs.Routes.{AreRoutes};
+ghost use Rattle.vw_pipe.specs.Steps.Turns.{AreTurns};
 ghost use Rattle.vw_pipe.specs.Steps.Given.{DoesFor, IsDoneFor, IsFitFor, IsReadyFor, IsUntouchedFor, lead_for, net_count, usable_for};
 
 use crate::draft::{Draft, send};
 use crate::given::Given;
 use crate::task::{Task, tasks_in_order};
-use crate::turns::turns_of;
+use crate::turns::Turns;
 use std::alloc::{AllocError, Global};
 use vw_net::Sequence;
 use vw_plan::node_of;
@@ -113,16 +114,16 @@ fn untouched(alloc: Global, given: &Given) -> Result<Draft, AllocError>
     })
 }
 
-/// The leads of all nets, and the hops of all routes.
-pub fn drafted(alloc: Global, given: &Given) -> Result<Draft, AllocError>
+/// The leads of all nets, and the hops of all routes, worked out in these turns.
+pub fn drafted(alloc: Global, given: &Given, turns: &Turns) -> Result<Draft, AllocError>
     requires chips { All (IsChip given.now.board.now) given.now.chip_of.now }
     requires routes { AreRoutes given.now.ordered.now.flat given.now.board.now given.now.chip_of.now
         given.now.routes.now }
     requires few { length given.now.routes.now < 2 ^ 32 }
+    requires turns { AreTurns given.now.ordered.now given.now.chip_of.now given.now.routes.now turns.now }
     ensures { IfOk result (IsDoneFor given.now) }
 {
-    let turns = turns_of(alloc, given)?;
-    let tasks = tasks_in_order(alloc, given.ordered, given.routes, turns.as_slice())?;
+    let tasks = tasks_in_order(alloc, given.ordered, turns)?;
     let mut draft = untouched(alloc, given)?;
     for task in tasks.as_slice() {
         carry_out(alloc, given, &mut draft, task)?;

@@ -14,3 +14,4 @@ mod turns;
 
 pub use planning::schedule;
 pub use refused::ScheduleRefused;
+pub use turns::Priority;

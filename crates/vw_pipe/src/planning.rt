@@ -16,6 +16,7 @@ use crate::draft::Draft;
 use crate::drafting::{drafted, usable_at};
 use crate::given::Given;
 use crate::refused::ScheduleRefused;
+use crate::turns::{Priority, turns_of};
 use std::alloc::{AllocError, Global};
 use vw_net::{Cell, Ordered, Sequence};
 use vw_plan::{Board, Hop, Plan, Route, Wire, leads_follow_drivers, needed_pairs_are_needed};
@@ -83,6 +84,7 @@ fn plan_parts(
     board: &Board,
     chip_of: &[u32],
     routes: &[Route],
+    priority: Priority,
 ) -> Result<(Vec<Wire>, u64), AllocError>
     requires each { length chip_of.now ≡ length ordered.now.flat.cells }
     requires chips { All (IsChip board.now) chip_of.now }
@@ -111,14 +113,15 @@ fn plan_parts(
         places: &places,
         links: &links,
     };
-    let draft = drafted(alloc, &given)?;
+    let turns = turns_of(alloc, &given, priority)?;
+    let draft = drafted(alloc, &given, &turns)?;
     let period = period_of(&given, &draft);
     let wires = wires_of(alloc, routes, draft.hops)?;
     Ok((wires, period))
 }
 
 /// A sound plan whose wires follow routes: a wire starts as soon as its net is usable, each hop takes the first free slot of its
-/// link, and the period is the least sound one. Nets that a longer path follows take their slots first. It takes memory for the hops and their slots, for
+/// link, and the period is the least sound one. What a longer path follows takes its slots first: nets or routes, by `priority`. It takes memory for the hops and their slots, for
 /// a few numbers for each net and each route, and for a number for each two of 33 nodes; where there is none, it hands the
 /// chips and the routes back.
 pub fn schedule(
@@ -127,6 +130,7 @@ pub fn schedule(
     board: &Board,
     chip_of: Sequence<u32>,
     routes: Sequence<Route>,
+    priority: Priority,
 ) -> Result<Plan, ScheduleRefused>
     requires each { length chip_of ≡ length ordered.now.flat.cells }
     requires chips { All (IsChip board.now) chip_of }
@@ -137,7 +141,15 @@ pub fn schedule(
         (λ refused. (refused.chip_of ≡ chip_of) × (refused.routes ≡ routes)) }
 {
     needed_pairs_are_needed();
-    match plan_parts(alloc, ordered, board, chip_of.as_slice(), routes.as_slice()) {
+    let parts = plan_parts(
+        alloc,
+        ordered,
+        board,
+        chip_of.as_slice(),
+        routes.as_slice(),
+        priority,
+    );
+    match parts {
         Ok((wires, period)) => Ok(Plan::make(chip_of, Sequence::of(wires), period)),
         Err(_) => Err(ScheduleRefused { chip_of, routes }),
     }

@@ -1,5 +1,6 @@
 //! How long a path still follows each net, in microcycles: over the gates that settle and over the links of its wires, up to a
-//! latch or an output. It only says which net is sent first; no contract rests on it.
+//! latch or an output. It only says what is sent first; no contract rests on it. In the field: the priority of list scheduling
+//! by the critical path.
 use crate::given::Given;
 use std::alloc::{AllocError, Global};
 use vw_net::Cell;
@@ -60,68 +61,84 @@ fn settling(given: &Given, net: u32) -> u64 {
     }
 }
 
-/// How long it takes from a net's lead until a node can use it, if it never waits; 0 for a gate that reads it at home.
-fn way(given: &Given, times: &[u64], net: u32, node: u32) -> u64 {
-    if home(given, net) == node {
-        return 0;
-    }
-    match given.places.first(net, node) {
-        Some(place) => {
-            let time = times.get(place).copied().unwrap_or(0);
-            settling(given, net).saturating_add(time)
-        }
-        None => 0,
-    }
+/// How long a path still follows each net at its own node, and each route, from the lead of its net on.
+#[derive(Drop)]
+pub struct Remaining {
+    pub nets: Vec<u64>,
+    pub routes: Vec<u64>,
 }
 
 /// Makes a number of a list no less than another.
-fn raise(list: &mut Vec<u64>, place: u32, least: u64) {
-    if let Some(entry) = list.get_mut(place as usize) {
+fn raise(list: &mut Vec<u64>, place: usize, least: u64) {
+    if let Some(entry) = list.get_mut(place) {
         *entry = (*entry).max(least);
     }
 }
 
-/// Says that a path follows each net that is sent, as long as its route.
-fn follow_routes(given: &Given, times: &[u64], remaining: &mut Vec<u64>) {
+/// A path follows each route, as long as it takes along it, and so it follows its net.
+fn follow_routes(given: &Given, times: &[u64], remaining: &mut Remaining) {
     for (number, route) in given.routes.iter().enumerate() {
         let time = times.get(number).copied().unwrap_or(0);
-        let net = route.net();
-        raise(remaining, net, settling(given, net).saturating_add(time));
+        let rest = settling(given, route.net()).saturating_add(time);
+        raise(&mut remaining.routes, number, rest);
+        raise(&mut remaining.nets, route.net() as usize, rest);
     }
 }
 
-/// Says that each net that a latch reads at home has to settle.
-fn follow_latches(given: &Given, remaining: &mut Vec<u64>) {
+/// Each net that a latch reads at home has to settle.
+fn follow_latches(given: &Given, remaining: &mut Remaining) {
     for (number, cell) in given.ordered.flat().cells().iter().enumerate() {
         if let Cell::Latch { d, .. } = cell {
             let node = given.chip_of.get(number).copied().unwrap_or(0);
             if home(given, *d) == node {
-                raise(remaining, *d, settling(given, *d));
+                raise(&mut remaining.nets, *d as usize, settling(given, *d));
             }
         }
     }
 }
 
-/// Says of each net that a gate reads that what follows the gate follows it, too.
-fn follow_gate(given: &Given, times: &[u64], remaining: &mut Vec<u64>, number: u32) {
-    let flat = given.ordered.flat();
-    let net = flat.inputs().saturating_add(number);
-    let rest = remaining.get(net as usize).copied().unwrap_or(0);
+/// What follows a gate on a node follows a net that it reads, too, and the route that brings the net there.
+fn follow_read(
+    given: &Given,
+    times: &[u64],
+    remaining: &mut Remaining,
+    node: u32,
+    net: u32,
+    rest: u64,
+) {
+    let mut before = rest;
+    if home(given, net) != node {
+        if let Some(number) = given.places.first(net, node) {
+            let time = times.get(number).copied().unwrap_or(0);
+            before = rest
+                .saturating_add(settling(given, net))
+                .saturating_add(time);
+            raise(&mut remaining.routes, number, before);
+        }
+    }
+    raise(&mut remaining.nets, net as usize, before);
+}
+
+/// What follows a gate follows each net that it reads.
+fn follow_gate(given: &Given, times: &[u64], remaining: &mut Remaining, number: u32) {
+    let net = given.ordered.flat().inputs().saturating_add(number);
+    let rest = remaining.nets.get(net as usize).copied().unwrap_or(0);
     let node = home(given, net);
     if let Some(Cell::Gate { ins, .. }) = driver(given, net) {
         for read in ins.as_slice() {
-            let time = way(given, times, *read, node);
-            raise(remaining, *read, rest.saturating_add(time));
+            follow_read(given, times, remaining, node, *read, rest);
         }
     }
 }
 
-/// How long a path still follows each net. Gates are gone over from the last to the first, so that what follows a gate is
-/// known before it is said of what the gate reads.
-pub fn remaining_of(alloc: Global, given: &Given) -> Result<Vec<u64>, AllocError> {
+/// How long a path still follows each net and each route. Gates are gone over from the last to the first, so that what
+/// follows a gate is known before it is said of what the gate reads.
+pub fn remaining_of(alloc: Global, given: &Given) -> Result<Remaining, AllocError> {
     let flat = given.ordered.flat();
     let times = times_of(alloc, given)?;
-    let mut remaining = vec![in alloc; 0; flat.inputs() as usize + flat.cells().len()]?;
+    let nets = vec![in alloc; 0; flat.inputs() as usize + flat.cells().len()]?;
+    let routes = vec![in alloc; 0; given.routes.len()]?;
+    let mut remaining = Remaining { nets, routes };
     follow_routes(given, times.as_slice(), &mut remaining);
     follow_latches(given, &mut remaining);
     for number in given.ordered.order().iter().rev() {

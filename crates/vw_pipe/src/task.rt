@@ -3,15 +3,14 @@ ghost use Rattle.std.specs.Prelude.{◌≡◌, ◌<◌, ◌+◌, ◌^◌, ◌++�
 ghost use Rattle.std.specs.List.Sorted.{IsPermutation};
 ghost use Rattle.vw_pipe.specs.Steps.Tasks.{all_tasks, tasks_from, AreRising};
 
-use crate::turns::turn_in;
+use crate::turns::{Turns, turn_in};
 use std::alloc::{AllocError, Global};
 use vw_net::Ordered;
-use vw_plan::Route;
 
-/// One thing that is done. Tasks are ordered by the turns of their nets; of one turn, the leads come before the hops.
+/// One thing that is done. Tasks are ordered by their turns; of one turn, the leads come before the hops.
 #[derive(Clone, Copy, PartialEq, Eq, PartialOrd, Ord)]
 pub struct Task {
-    /// The turn of the net.
+    /// The turn of the gate's net, or of the route.
     pub turn: u64,
     /// Whether the hops of a route are sent; else the lead of a gate is worked out.
     pub sends: bool,
@@ -36,15 +35,15 @@ fn list_leads(ordered: &Ordered, turns: &[u64], tasks: &mut Vec<Task>) -> Result
     Ok(())
 }
 
-/// Lists the task of each route.
-fn list_sends(routes: &[Route], turns: &[u64], tasks: &mut Vec<Task>) -> Result<(), AllocError>
-    requires { length routes.now < 2 ^ 32 }
+/// Lists the task of each route, by its turn.
+fn list_sends(turns: &[u64], tasks: &mut Vec<Task>) -> Result<(), AllocError>
+    requires { length turns.now < 2 ^ 32 }
     ensures { OnOk result (tasks.new.items ≡ tasks.old.items
-        ++ tasks_from (λ route. slice_index turns.now route.net) true 0 routes.now) }
+        ++ tasks_from (λ turn. turn) true 0 turns.now) }
 {
-    for (number, route) in routes.iter().enumerate() {
+    for (number, turn) in turns.iter().enumerate() {
         tasks.push(Task {
-            turn: turn_in(turns, route.net()),
+            turn: *turn,
             sends: true,
             place: number as u32,
         })?;
@@ -52,21 +51,19 @@ fn list_sends(routes: &[Route], turns: &[u64], tasks: &mut Vec<Task>) -> Result<
     Ok(())
 }
 
-/// All tasks, by the turns of their nets.
+/// All tasks, by their turns.
 pub fn tasks_in_order(
     alloc: Global,
     ordered: &Ordered,
-    routes: &[Route],
-    turns: &[u64],
+    turns: &Turns,
 ) -> Result<Vec<Task>, AllocError>
-    requires { length routes.now < 2 ^ 32 }
+    requires { length turns.now.routes.items < 2 ^ 32 }
     ensures { IfOk result (λ tasks.
-        IsPermutation (all_tasks ordered.now turns.now routes.now) tasks.items
-        × AreRising tasks.items) }
+        IsPermutation (all_tasks ordered.now turns.now) tasks.items × AreRising tasks.items) }
 {
-    let mut tasks = Vec::with_capacity(alloc, ordered.order().len() + routes.len())?;
-    list_leads(ordered, turns, &mut tasks)?;
-    list_sends(routes, turns, &mut tasks)?;
+    let mut tasks = Vec::with_capacity(alloc, ordered.order().len() + turns.routes.len())?;
+    list_leads(ordered, &turns.nets, &mut tasks)?;
+    list_sends(&turns.routes, &mut tasks)?;
     tasks.sort()?;
     Ok(tasks)
 }

@@ -4,8 +4,9 @@ use crate::same::{are_either, are_wide_numbers, is_count};
 use std::alloc::Global;
 use std::process::Abort;
 use std::test::Fail;
+use vw_multilevel::hint;
 use vw_net::{Ordered, Sequence};
-use vw_part::{PartFault, partition};
+use vw_part::{PartFault, partition_from};
 use vw_wires::needed;
 
 /// That with room for two cells on each chip.
@@ -16,13 +17,25 @@ const TWO_EACH: &[u8] =
 const RING: &[u8] =
     b"board 1\nchips 4\ncells 80\nsettle 0\npins 2\nlink 0 1 1\nlink 1 2 1\nlink 2 3 1\nlink 3 4 1\nlink 4 0 1\n";
 
-/// The chips that a netlist's cells are dealt to.
-fn chips_of(alloc: Global, ordered: &Ordered, text: &[u8]) -> Result<Sequence<u32>, Fail> {
+/// The chips that a netlist's cells are dealt to by wishes.
+fn chips_from(
+    alloc: Global,
+    ordered: &Ordered,
+    text: &[u8],
+    wishes: &[u32],
+) -> Result<Sequence<u32>, Fail> {
     let board = board(alloc, text)?;
-    match partition(alloc, ordered, &board) {
+    match partition_from(alloc, ordered, &board, wishes) {
         Ok(chips) => Ok(chips),
         Err(_) => Err("no partition".into()),
     }
+}
+
+/// The chips that a netlist's cells are dealt to by the wishes of the hint.
+fn chips_of(alloc: Global, ordered: &Ordered, text: &[u8]) -> Result<Sequence<u32>, Fail> {
+    let board = board(alloc, text)?;
+    let wishes = hint(alloc, ordered, &board)?;
+    chips_from(alloc, ordered, text, wishes.as_slice())
 }
 
 /// How many pairs are needed.
@@ -111,7 +124,7 @@ fn two_cells_that_read_each_other_are_together(rt: HostRuntime) -> Result<(), Fa
 /// How many cells there are, and for how many a board has room, where they are too many.
 fn too_many(alloc: Global, ordered: &Ordered, text: &[u8]) -> Result<[u64; 2], Fail> {
     let board = board(alloc, text)?;
-    match partition(alloc, ordered, &board) {
+    match partition_from(alloc, ordered, &board, &[]) {
         Err(PartFault::TooManyCells { cells, room }) => Ok([cells, room]),
         _ => Err("not too many".into()),
     }
@@ -213,6 +226,50 @@ fn no_move_lowers_the_pairs_of_a_tangle(rt: HostRuntime) -> Result<(), Fail> {
     let tangle = tangle(rt.alloc())?;
     let chips = chips_of(rt.alloc(), &tangle, RING)?;
     no_moves_help(&rt, rt.alloc(), &tangle, chips.as_slice())
+}
+
+/// Asserts that the cells of the tangle are dealt well by these wishes: each to a chip, none to a full one, and so that no move
+/// helps.
+fn tangle_is_dealt(rt: &impl Abort, alloc: Global, wishes: &[u32]) -> Result<(), Fail> {
+    let tangle = tangle(alloc)?;
+    let chips = chips_from(alloc, &tangle, RING, wishes)?;
+    no_moves_help(rt, alloc, &tangle, chips.as_slice())
+}
+
+/// Asserts the same where each cell of the tangle wishes for this chip.
+fn tangle_is_dealt_to(rt: &impl Abort, alloc: Global, chip: u32) -> Result<(), Fail> {
+    let wishes = vec![in alloc; chip; 300]?;
+    tangle_is_dealt(rt, alloc, wishes.as_slice())
+}
+
+#[test]
+fn wishes_for_one_chip_alone_are_dealt(rt: HostRuntime) -> Result<(), Fail> {
+    tangle_is_dealt_to(&rt, rt.alloc(), 3)
+}
+
+#[test]
+fn wishes_for_the_host_are_dealt(rt: HostRuntime) -> Result<(), Fail> {
+    tangle_is_dealt_to(&rt, rt.alloc(), 0)
+}
+
+#[test]
+fn wishes_for_a_chip_that_is_not_there_are_dealt(rt: HostRuntime) -> Result<(), Fail> {
+    tangle_is_dealt_to(&rt, rt.alloc(), 5)
+}
+
+#[test]
+fn wishes_for_the_greatest_number_are_dealt(rt: HostRuntime) -> Result<(), Fail> {
+    tangle_is_dealt_to(&rt, rt.alloc(), u32::MAX)
+}
+
+#[test]
+fn cells_without_wishes_are_dealt(rt: HostRuntime) -> Result<(), Fail> {
+    tangle_is_dealt(&rt, rt.alloc(), &[])
+}
+
+#[test]
+fn a_few_wishes_are_dealt(rt: HostRuntime) -> Result<(), Fail> {
+    tangle_is_dealt(&rt, rt.alloc(), &[4, 0, 2, 9, 2])
 }
 
 /// Two chips in a ring with the host, with room for 100 cells on each.

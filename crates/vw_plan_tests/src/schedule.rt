@@ -12,9 +12,9 @@ use std::process::Abort;
 use std::test::Fail;
 use vw_board::Distances;
 use vw_net::{Ordered, Sequence};
-use vw_pipe::schedule;
+use vw_pipe::{Priority, schedule};
 use vw_plan::{Board, Plan, Route};
-use vw_run::routes_of;
+use vw_run::{Routing, routes_of};
 
 /// The shortest routes of a placement.
 fn routes(
@@ -28,7 +28,14 @@ fn routes(
     ensures { IfOk result (AreRoutes ordered.now.flat board.now chips.now) }
 {
     let distances = Distances::of(alloc, board)?;
-    routes_of(alloc, ordered, board, &distances, chips)
+    routes_of(
+        alloc,
+        ordered,
+        board,
+        &distances,
+        chips,
+        Routing::FirstSteps,
+    )
 }
 
 /// The schedule of a placement by hand, with shortest routes.
@@ -41,7 +48,7 @@ fn scheduled(alloc: Global, ordered: &Ordered, board: &Board, chips: &[u32]) -> 
     }
     let routes = routes(alloc, ordered, board, chips)?;
     let chip_of = Sequence::of(chips.to_vec(alloc)?);
-    match schedule(alloc, ordered, board, chip_of, routes) {
+    match schedule(alloc, ordered, board, chip_of, routes, Priority::Nets) {
         Ok(plan) => Ok(plan),
         Err(_) => Err("no memory".into()),
     }

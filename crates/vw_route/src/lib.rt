@@ -2,7 +2,11 @@
 #![tactic(auto)]
 
 mod laws;
+mod least;
 mod route;
+mod spread;
 
 pub use laws::routes_are_one;
+pub use least::is_least_walk;
 pub use route::walk;
+pub use spread::spread_walks;

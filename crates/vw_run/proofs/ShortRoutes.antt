@@ -19,7 +19,7 @@ use Rattle.vw_plan.proofs.NeededPairs.{any-needed_pairs}
 use Rattle.vw_plan.proofs.Shortest.{distance-le}
 use Rattle.vw_place.proofs.PairTables.{few_pairs, pairs_within}
 use Rattle.vw_pipe.proofs.StepsOf.{steps_long}
-use Rattle.vw_route.specs.Routes.{IsRouteBySteps}
+use Rattle.vw_route.specs.Routes.{IsLeastWalk, IsRouteBySteps}
 use Rattle.vw_run.specs.Shortest.{IsShortRoute}
 
 -- ---- a needed pair
@@ -53,22 +53,25 @@ reachable flat board chip_of needs are same i default within =
 
 -- ---- a route
 
-pub short_route : (flat : Flat) (board : Board) (chip_of : List ℕ) (route : Route) → IsRouteBySteps board (node_of flat chip_of route.net) route.to route.nodes → IsShortRoute flat board chip_of route
+pub short_route : (flat : Flat) (board : Board) (chip_of : List ℕ) (route : Route) → IsLeastWalk board (node_of flat chip_of route.net) route.to route.nodes → IsShortRoute flat board chip_of route
 short_route flat board chip_of route walked =
     let from = node_of flat chip_of route.net in record {
       route_is = record { further = walked.rest; nodes = walked.begins; walk = walked.walk };
       short = ap (λ (nodes : List ℕ). length (steps_of nodes)) walked.begins ∙ steps_long from walked.rest ∙ walked.count;
-      steps = walked;
     }
 
+-- a walk by first steps is one of the least number of links
+pub stepped_walk : {board : Board} {from to : ℕ} {nodes : List ℕ} → IsRouteBySteps board from to nodes → IsLeastWalk board from to nodes
+stepped_walk walked = record { rest = walked.rest; begins = walked.begins; walk = walked.walk; count = walked.count }
+
 -- a walk that was found from a node to another
-pub walked_route : (flat : Flat) (board seen : Board) (chip_of : List ℕ) (route : Route) (from to : ℕ) (nodes : List ℕ) → seen ≡ board → from ≡ node_of flat chip_of route.net → to ≡ route.to → nodes ≡ route.nodes → IsRouteBySteps seen from to nodes
-    → IsRouteBySteps board (node_of flat chip_of route.net) route.to route.nodes
+pub walked_route : (flat : Flat) (board seen : Board) (chip_of : List ℕ) (route : Route) (from to : ℕ) (nodes : List ℕ) → seen ≡ board → from ≡ node_of flat chip_of route.net → to ≡ route.to → nodes ≡ route.nodes → IsLeastWalk seen from to nodes
+    → IsLeastWalk board (node_of flat chip_of route.net) route.to route.nodes
 walked_route flat board seen chip_of route from to nodes same_board same_from same_to same_nodes walked =
-    subst (λ (list : List ℕ). IsRouteBySteps board (node_of flat chip_of route.net) route.to list) same_nodes
-    (subst (λ (node : ℕ). IsRouteBySteps board (node_of flat chip_of route.net) node nodes) same_to
-    (subst (λ (node : ℕ). IsRouteBySteps board node to nodes) same_from
-    (subst (λ (one : Board). IsRouteBySteps one from to nodes) same_board walked)))
+    subst (λ (list : List ℕ). IsLeastWalk board (node_of flat chip_of route.net) route.to list) same_nodes
+    (subst (λ (node : ℕ). IsLeastWalk board (node_of flat chip_of route.net) node nodes) same_to
+    (subst (λ (node : ℕ). IsLeastWalk board node to nodes) same_from
+    (subst (λ (one : Board). IsLeastWalk one from to nodes) same_board walked)))
 
 -- one more route
 pub more_short : (flat : Flat) (board : Board) (chip_of : List ℕ) (routes : List Route) (route : Route) → All (IsShortRoute flat board chip_of) routes → IsShortRoute flat board chip_of route → All (IsShortRoute flat board chip_of) (routes ++ route ∷ [])

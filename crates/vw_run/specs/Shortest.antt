@@ -6,10 +6,8 @@ use Rattle.vw_plan.specs.declared.need.Route.{Route}
 use Rattle.vw_plan.specs.Distance.{distance}
 use Rattle.vw_plan.specs.Nets.{node_of}
 use Rattle.vw_plan.specs.Routes.{IsRoute, steps_of}
-use Rattle.vw_route.specs.Routes.{IsRouteBySteps}
 
--- a route has as many links as its nodes are apart, and goes by first steps, so there is no other one
+-- a route has as many links as its nodes are apart
 pub record IsShortRoute (flat : Flat) (board : Board) (chip_of : List ℕ) (route : Route) : Type 0 where
   pub route_is : IsRoute flat board chip_of route
   pub short : length (steps_of route.nodes) ≡ distance board (node_of flat chip_of route.net) route.to
-  pub steps : IsRouteBySteps board (node_of flat chip_of route.net) route.to route.nodes

@@ -7,22 +7,39 @@ ghost use Rattle.vw_plan.specs.PlannedBoard.{planned_board};
 ghost use Rattle.vw_run.specs.GivenChips.{IsCompiledFor, IsPlanFor};
 ghost use Rattle.vw_run.specs.Compiled.{IsCompileFault, IsCompiled, IsCompileRefused};
 
+use crate::better::{Bounds, better};
 use crate::fault::{CompileFault, CompileRefused};
 use crate::routes::routes_of;
+use crate::way::{FIRST_WAY, OTHER_WAYS, ROUND_WAY, Way, shorter};
 use std::alloc::{AllocError, Global};
 use vw_board::Distances;
+use vw_multilevel::{again, hint, renumbered, rounds};
 use vw_net::{Ordered, Sequence};
-use vw_part::{PartFault, partition};
+use vw_part::{PartFault, partition_from};
 use vw_pipe::schedule;
 use vw_place::place;
 use vw_plan::{Board, Checked, Plan};
 
-/// The chip of each cell, so that neither a move of one cell nor an exchange of two chips helps.
+/// Refuses a design that has more cells than all chips have room for, before any work is done for it.
+fn check_room(ordered: &Ordered, board: &Board) -> Result<(), CompileFault>
+    ensures { IfErr result (IsCompileFault ordered.now board.now) }
+{
+    let cells = ordered.flat().cells().len() as u64;
+    let room = u64::from(board.chips()) * u64::from(board.cells());
+    if cells > room {
+        return Err(CompileFault::TooManyCells { cells, room });
+    }
+    Ok(())
+}
+
+/// The chip of each cell, so that neither a move of one cell nor an exchange of two chips helps. Which of these placements it
+/// is rests on the wishes.
 fn placement_of(
     alloc: Global,
     ordered: &Ordered,
     board: &Board,
     distances: &Distances,
+    wishes: &[u32],
 ) -> Result<Sequence<u32>, CompileFault>
     requires distances { distances.now ≡ board.now }
     ensures each { IfOk result (λ chip_of. length chip_of ≡ length ordered.now.flat.cells) }
@@ -32,7 +49,7 @@ fn placement_of(
     ensures exchanges { IfOk result (NoExchangeHelps ordered.now.flat board.now) }
     ensures fault { IfErr result (IsCompileFault ordered.now board.now) }
 {
-    let parts = match partition(alloc, ordered, board) {
+    let parts = match partition_from(alloc, ordered, board, wishes) {
         Ok(parts) => parts,
         Err(PartFault::TooManyCells { cells, room }) => {
             return Err(CompileFault::TooManyCells { cells, room });
@@ -45,13 +62,14 @@ fn placement_of(
     }
 }
 
-/// A plan for these chips, given how far the nodes are.
+/// A plan for these chips, given how far the nodes are, which walks its wires take, and what is sent first.
 fn plan_for(
     alloc: Global,
     ordered: &Ordered,
     board: &Board,
     distances: &Distances,
     chip_of: Sequence<u32>,
+    way: Way,
 ) -> Result<Plan, AllocError>
     requires distances { distances.now ≡ board.now }
     requires each { length chip_of ≡ length ordered.now.flat.cells }
@@ -59,11 +77,164 @@ fn plan_for(
     requires room { (chip : ℕ) → cells_on chip_of chip ≤ board.now.cells }
     ensures { IfOk result (IsPlanFor ordered.now board.now chip_of) }
 {
-    let routes = routes_of(alloc, ordered, board, distances, chip_of.as_slice())?;
-    match schedule(alloc, ordered, board, chip_of, routes) {
+    let routes = routes_of(
+        alloc,
+        ordered,
+        board,
+        distances,
+        chip_of.as_slice(),
+        way.routing,
+    )?;
+    match schedule(alloc, ordered, board, chip_of, routes, way.priority) {
         Ok(plan) => Ok(plan),
         Err(_) => Err(AllocError),
     }
+}
+
+/// The plan for these chips of the least period, of those of all ways.
+fn best_plan_for(
+    alloc: Global,
+    ordered: &Ordered,
+    board: &Board,
+    distances: &Distances,
+    chip_of: &[u32],
+) -> Result<Plan, AllocError>
+    requires distances { distances.now ≡ board.now }
+    requires each { length chip_of.now ≡ length ordered.now.flat.cells }
+    requires chips { All (IsChip board.now) chip_of.now }
+    requires room { (chip : ℕ) → cells_on chip_of.now chip ≤ board.now.cells }
+    ensures { IfOk result (IsPlanFor ordered.now board.now chip_of.now) }
+{
+    let chips = Sequence::of(chip_of.to_vec(alloc)?);
+    let mut best = plan_for(alloc, ordered, board, distances, chips, FIRST_WAY)?;
+    for way in &OTHER_WAYS {
+        let chips = Sequence::of(chip_of.to_vec(alloc)?);
+        let next = plan_for(alloc, ordered, board, distances, chips, *way)?;
+        best = shorter(ordered, board, chip_of, best, next);
+    }
+    Ok(best)
+}
+
+/// A good plan, given how far the nodes are, and wishes for the cells' chips. It is good whatever the wishes are.
+fn plan_from(
+    alloc: Global,
+    ordered: &Ordered,
+    board: &Board,
+    distances: &Distances,
+    wishes: &[u32],
+) -> Result<Plan, CompileFault>
+    requires distances { distances.now ≡ board.now }
+    ensures good { IfOk result (λ plan. IsGood (planned_board ordered.now board.now plan)) }
+    ensures fault { IfErr result (IsCompileFault ordered.now board.now) }
+{
+    let chip_of = placement_of(alloc, ordered, board, distances, wishes)?;
+    let plan = plan_for(alloc, ordered, board, distances, chip_of, ROUND_WAY)?;
+    Ok(plan)
+}
+
+/// The same by the best of all ways.
+fn best_plan_from(
+    alloc: Global,
+    ordered: &Ordered,
+    board: &Board,
+    distances: &Distances,
+    wishes: &[u32],
+) -> Result<Plan, CompileFault>
+    requires distances { distances.now ≡ board.now }
+    ensures good { IfOk result (λ plan. IsGood (planned_board ordered.now board.now plan)) }
+    ensures fault { IfErr result (IsCompileFault ordered.now board.now) }
+{
+    let chip_of = placement_of(alloc, ordered, board, distances, wishes)?;
+    let plan = best_plan_for(alloc, ordered, board, distances, chip_of.as_slice())?;
+    Ok(plan)
+}
+
+/// A good plan with the chips of another one, by the best of all ways.
+fn polished(
+    alloc: Global,
+    ordered: &Ordered,
+    board: &Board,
+    distances: &Distances,
+    plan: Plan,
+) -> Result<Plan, CompileFault>
+    requires distances { distances.now ≡ board.now }
+    requires good { IsGood (planned_board ordered.now board.now plan) }
+    ensures good { IfOk result (λ plan. IsGood (planned_board ordered.now board.now plan)) }
+    ensures fault { IfErr result (IsCompileFault ordered.now board.now) }
+{
+    let next = best_plan_for(alloc, ordered, board, distances, plan.chip_of())?;
+    if next.period() < plan.period() {
+        return Ok(next);
+    }
+    Ok(plan)
+}
+
+/// The best of a good plan and of those that some rounds make, each with wishes that are made of the plan before it. Where
+/// four in a row wish for nothing new, no further one does, since rounds repeat after four. Want of memory in a round is want
+/// of memory: else a plan would rest on how much of it there is.
+fn refined(
+    alloc: Global,
+    ordered: &Ordered,
+    board: &Board,
+    distances: &Distances,
+    first: Plan,
+) -> Result<Plan, CompileFault>
+    requires distances { distances.now ≡ board.now }
+    requires good { IsGood (planned_board ordered.now board.now first) }
+    ensures good { IfOk result (λ plan. IsGood (planned_board ordered.now board.now plan)) }
+    ensures fault { IfErr result (IsCompileFault ordered.now board.now) }
+{
+    let mut bounds = Bounds {
+        period: first.period(),
+        wires: first.wires().len(),
+    };
+    let mut last = first.chip_of().to_vec(alloc)?;
+    let mut best = first;
+    let mut still: u32 = 0;
+    for round in 0..rounds(ordered, board) {
+        if still == 4 {
+            break;
+        }
+        let wishes = again(alloc, ordered, board, last.as_slice(), round)?;
+        if wishes.as_slice() == last.as_slice() {
+            still = still.saturating_add(1);
+            continue;
+        }
+        still = 0;
+        let next = plan_from(alloc, ordered, board, distances, wishes.as_slice())?;
+        last = next.chip_of().to_vec(alloc)?;
+        bounds.wires = bounds.wires.min(next.wires().len());
+        best = better(ordered, board, best, next, bounds);
+    }
+    Ok(best)
+}
+
+/// The best of a good plan and of those that a few other starts of its placement lead to: the same parts, with their chips
+/// numbered anew. None has a longer period.
+fn started_anew(
+    alloc: Global,
+    ordered: &Ordered,
+    board: &Board,
+    distances: &Distances,
+    plan: Plan,
+) -> Result<Plan, CompileFault>
+    requires distances { distances.now ≡ board.now }
+    requires good { IsGood (planned_board ordered.now board.now plan) }
+    ensures good { IfOk result (λ plan. IsGood (planned_board ordered.now board.now plan)) }
+    ensures fault { IfErr result (IsCompileFault ordered.now board.now) }
+{
+    let bounds = Bounds {
+        period: plan.period(),
+        wires: plan.wires().len(),
+    };
+    let parts = plan.chip_of().to_vec(alloc)?;
+    let mut best = plan;
+    for seed in 1..5u32 {
+        let wishes = renumbered(alloc, board, parts.as_slice(), seed)?;
+        let next = plan_from(alloc, ordered, board, distances, wishes.as_slice())?;
+        best = better(ordered, board, best, next, bounds);
+    }
+    Ok(best)
 }
 
 /// A good plan, given how far the nodes are.
@@ -77,9 +248,16 @@ fn plan_by(
     ensures good { IfOk result (λ plan. IsGood (planned_board ordered.now board.now plan)) }
     ensures fault { IfErr result (IsCompileFault ordered.now board.now) }
 {
-    let chip_of = placement_of(alloc, ordered, board, distances)?;
-    let plan = plan_for(alloc, ordered, board, distances, chip_of)?;
-    Ok(plan)
+    check_room(ordered, board)?;
+    let wishes = hint(alloc, ordered, board)?;
+    let first = best_plan_from(alloc, ordered, board, distances, wishes.as_slice())?;
+    drop(wishes);
+    if board.chips() < 2 {
+        return Ok(first);
+    }
+    let best = refined(alloc, ordered, board, distances, first)?;
+    let best = started_anew(alloc, ordered, board, distances, best)?;
+    polished(alloc, ordered, board, distances, best)
 }
 
 /// A good plan.
@@ -106,7 +284,7 @@ pub fn compile_for(
     ensures { IfOk result (IsCompiledFor ordered board chip_of) }
 {
     let distances = Distances::of(alloc, &board)?;
-    let plan = plan_for(alloc, &ordered, &board, &distances, chip_of)?;
+    let plan = best_plan_for(alloc, &ordered, &board, &distances, chip_of.as_slice())?;
     drop(distances);
     Ok(Checked::make(ordered, board, plan))
 }

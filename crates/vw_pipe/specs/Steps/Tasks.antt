@@ -2,8 +2,8 @@
 use Rattle.std.specs.Prelude.{◌≡◌, ◌≤◌, ◌+◌, ◌++◌, ℕ, suc, Bool, true, false, List, [], ◌∷◌, slice_index}
 use Rattle.std.specs.List.{AllPairs}
 use Rattle.vw_net.specs.declared.ordered.Ordered.{Ordered}
-use Rattle.vw_plan.specs.declared.need.Route.{Route}
 use Rattle.vw_pipe.specs.declared.task.Task.{Task}
+use Rattle.vw_pipe.specs.declared.turns.Turns.{Turns}
 
 -- a task for each of some things, which are numbered from a number on
 abbrev pub tasks_from : {X : Type 0} → (X → ℕ) → Bool → ℕ → List X → List Task
@@ -11,10 +11,10 @@ tasks_from turn_of sends place [] = []
 tasks_from turn_of sends place (x ∷ xs) = record { turn = turn_of x; sends = sends; place = place } ∷ tasks_from turn_of sends (suc place) xs
 
 -- the lead of each gate, and the hops of each route
-abbrev pub all_tasks : Ordered → List ℕ → List Route → List Task
-all_tasks ordered turns routes =
-    tasks_from (λ number. slice_index turns (ordered.flat.inputs + number)) false 0 ordered.order
-    ++ tasks_from (λ route. slice_index turns route.net) true 0 routes
+abbrev pub all_tasks : Ordered → Turns → List Task
+all_tasks ordered turns =
+    tasks_from (λ number. slice_index turns.nets.items (ordered.flat.inputs + number)) false 0 ordered.order
+    ++ tasks_from (λ turn. turn) true 0 turns.routes.items
 
 -- leads come before hops
 abbrev pub task_rank : Bool → ℕ

@@ -14,11 +14,13 @@ use Rattle.vw_slots.specs.declared.slot.Taken.{Taken}
 use Rattle.vw_slots.specs.Slots.{is_pin_taken}
 use Rattle.vw_pipe.specs.declared.draft.Draft.{Draft}
 use Rattle.vw_pipe.specs.declared.task.Task.{Task}
+use Rattle.vw_pipe.specs.declared.turns.Turns.{Turns}
 use Rattle.vw_pipe.specs.Steps.SentHops.{AreSent, hop_link, hop_takes}
 use Rattle.vw_pipe.specs.Steps.FinishedSchedules.{all_hops, uses}
 use Rattle.vw_pipe.specs.Steps.Drafts.{IsFitDraft, hops_at}
 use Rattle.vw_pipe.specs.Steps.Leads.{lead_so_far, usable_so_far}
 use Rattle.vw_pipe.specs.Steps.Tasks.{AreRising, task_rank}
+use Rattle.vw_pipe.specs.Steps.Turns.{turn_at}
 
 -- ---- which tasks are done
 
@@ -37,12 +39,12 @@ abbrev pub task_at : List Task → ℕ → Task
 task_at tasks place = slice_index_or tasks place no_task
 
 -- what a task is for
-abbrev pub IsOfKind : Ordered → List ℕ → List Route → Bool → Task → Type 0
-IsOfKind ordered turns routes false task = (task.place < length ordered.order) × (task.turn ≡ slice_index turns (ordered.flat.inputs + slice_index ordered.order task.place))
-IsOfKind ordered turns routes true task = (task.place < length routes) × ((route : Route) → slice_get routes task.place ≡ Some route → task.turn ≡ slice_index turns route.net)
+abbrev pub IsOfKind : Ordered → Turns → List Route → Bool → Task → Type 0
+IsOfKind ordered turns routes false task = (task.place < length ordered.order) × (task.turn ≡ turn_at ordered turns.nets.items task.place)
+IsOfKind ordered turns routes true task = (task.place < length routes) × (task.turn ≡ slice_index turns.routes.items task.place)
 
 -- tasks in their order: one for each gate, and one for each route
-pub record AreTasks (ordered : Ordered) (turns : List ℕ) (routes : List Route) (tasks : List Task) : Type 0 where
+pub record AreTasks (ordered : Ordered) (turns : Turns) (routes : List Route) (tasks : List Task) : Type 0 where
   pub kinds : (place : ℕ) → place < length tasks → IsOfKind ordered turns routes (task_at tasks place).sends (task_at tasks place)
   pub once : (place : ℕ) → place < length tasks → is_passed tasks place (task_at tasks place).sends (task_at tasks place).place ≡ false
   pub gates : (place : ℕ) → place < length ordered.order → is_passed tasks (length tasks) false place ≡ true

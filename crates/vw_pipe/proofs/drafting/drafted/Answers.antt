@@ -1,6 +1,4 @@
-use Rattle.std.proofs.Common.{List, ℕ, sym, subst, arith}
-use Rattle.std.specs.List.Sorted.{IsPermutation}
-use Rattle.vw_pipe.specs.Steps.Tasks.{all_tasks}
+use Rattle.std.proofs.Common.{sym, subst, arith}
 use Rattle.vw_pipe.specs.Steps.Underway.{AreTasks}
 use Rattle.vw_pipe.proofs.Agenda.{are_tasks}
 use Rattle.vw_pipe.proofs.AllTasksDone.{finished}
@@ -16,11 +14,9 @@ loop-task-init c =
     let given = c.args.given.now in
     let ordered = given.ordered.now in
     let routes = given.routes.now in
-    let turns = c.in_ok-turns.turns.items in
+    let turns = c.args.turns.now in
     let tasks = c.in_ok-tasks.tasks.items in
-    let AreAllTasks = λ (turns : List ℕ). IsPermutation (all_tasks ordered turns routes) tasks in
-    let listed = subst AreAllTasks c.as_slice.ensures.value c.in_ok-tasks.ensures.0 in
-    let are = are_tasks ordered turns routes tasks listed c.in_ok-tasks.ensures.1 in
+    let are = are_tasks ordered turns routes c.requires.turns.sent.long tasks c.in_ok-tasks.ensures.0 c.in_ok-tasks.ensures.1 in
     record {
       tasks = subst (AreTasks ordered turns routes) (sym c.as_slice-task-items.ensures.value) are;
       way = started ordered given.board.now given.chip_of.now routes c.as_slice-task-items.result.now c.in_ok-draft.draft c.in_ok-draft.ensures;
@@ -28,10 +24,10 @@ loop-task-init c =
 
 -- what each task finds
 agenda : (c : In-loop-task) → IsAgenda c.args.given.now.ordered.now c.args.given.now.board.now c.args.given.now.chip_of.now
-    c.args.given.now.routes.now c.in_ok-turns.turns.items c.as_slice-task-items.result.now
+    c.args.given.now.routes.now c.args.turns.now c.as_slice-task-items.result.now
 agenda c = record {
   each = c.args.given.now.each;
-  behind = c.in_ok-turns.ensures;
+  kept = c.requires.turns;
   tasks_are = c.loop-task.invariant.tasks;
   routes_are = c.requires.routes;
 }
@@ -48,7 +44,7 @@ loop-task-preserved c = record {
 pub returns : goal.returns
 returns c =
     let given = c.args.given.now in
-    let turns = c.in_ok-turns.turns.items in
+    let turns = c.args.turns.now in
     let tasks = c.as_slice-task-items.result.now in
     finished given.ordered.now given.board.now given.chip_of.now given.routes.now turns tasks c.loop-task.task-index c.loop-task.draft
     c.requires.routes c.loop-task.invariant.tasks (omega arith) c.loop-task.invariant.way

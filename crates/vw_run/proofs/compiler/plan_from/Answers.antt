@@ -1,5 +1,5 @@
 use Rattle.vw_run.proofs.GoodPlans.{good_plan}
-use Rattle.vw_run.proofs.compiler.plan_by.Goals as goal
+use Rattle.vw_run.proofs.compiler.plan_from.Goals as goal
 
 pub returns-clause-good : goal.returns-clause-good
 returns-clause-good c =

@@ -2,12 +2,12 @@ use Rattle.std.proofs.Common.{◌≡◌, ◌<◌, ◌≤◌, ◌+◌, ◌∙◌,
 use Rattle.vw_net.specs.declared.flat.Flat.{Flat}
 use Rattle.vw_net.proofs.ReadyNets.{order_within}
 use Rattle.vw_pipe.proofs.TurnsKept.{HasTurns, none_turned, one_turned, turns_kept}
-use Rattle.vw_pipe.proofs.turns.turns_by_order.Goals as goal
+use Rattle.vw_pipe.proofs.turns.nets_by_order.Goals as goal
 
 -- before any gate all turns are 0
 pub loop-place-init : goal.loop-place-init
 loop-place-init c =
-    let ordered = c.args.ordered.now in
+    let ordered = c.args.given.now.ordered.now in
     let inputs : c.inputs-inputs.result ≡ ordered.flat.inputs = c.inputs-inputs.ensures ∙ ap (λ (flat : Flat). flat.inputs) c.flat.ensures in
     let cells : length c.cells.result.now ≡ length ordered.flat.cells = ap length (c.cells.ensures ∙ ap (λ (flat : Flat). flat.cells) c.flat-2.ensures) in
     let nets = c.inputs-inputs.result + length c.cells.result.now in
@@ -17,7 +17,7 @@ loop-place-init c =
 -- the list has a place for the gate's net
 pub index_mut-requires : goal.index_mut-requires
 index_mut-requires c =
-    let ordered = c.args.ordered.now in
+    let ordered = c.args.given.now.ordered.now in
     let place = c.loop-place.place in
     let within : place < length ordered.order = omega (arith, ap length c.order-number-items.ensures, c.loop-place-test.true) in
     let number : get_or c.order-number-items.result.now place 0 ≡ get_or ordered.order place 0 = cc in
@@ -26,7 +26,7 @@ index_mut-requires c =
 
 pub loop-place-preserved : goal.loop-place-preserved
 loop-place-preserved c =
-    let ordered = c.args.ordered.now in
+    let ordered = c.args.given.now.ordered.now in
     let place = c.loop-place.place in
     let within : place < length ordered.order = omega (arith, ap length c.order-number-items.ensures, c.loop-place-test.true) in
     let number : get_or c.order-number-items.result.now place 0 ≡ get_or ordered.order place 0 = cc in
@@ -37,7 +37,7 @@ loop-place-preserved c =
 -- in the end each gate comes behind what it reads
 pub returns : goal.returns
 returns c =
-    let ordered = c.args.ordered.now in
+    let ordered = c.args.given.now.ordered.now in
     let place = c.loop-place.place in
     let whole : length ordered.order ≤ place = omega (arith, ap length c.order-number-items.ensures) in
     let has = c.loop-place.invariant in

@@ -1,7 +1,0 @@
--- the gates so far come behind what they read
-use Rattle.std.proofs.Common.{◌<◌, ℕ}
-use Rattle.vw_pipe.specs.Steps.Turns.{IsBehindReads}
-use Rattle.vw_pipe.proofs.turns.can_be_kept.Given as goal
-
-abbrev pub invariant-loop-number : goal.invariant-loop-number
-invariant-loop-number l = (place : ℕ) → place < l.number-index → IsBehindReads l.ordered l.turns place
