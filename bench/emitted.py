@@ -14,9 +14,14 @@ import pathlib
 import random
 import re
 import shutil
-import subprocess
 import sys
 import tempfile
+
+sys.dont_write_bytecode = True
+sys.path.insert(0, str(pathlib.Path(__file__).resolve().parent.parent / "tools"))
+from lib.calls import run, status_of, synthesis, write_text
+from lib.hardware import clocks_a_row, held_bench, joined, read_emitted, ring
+from lib.texts import different, traced
 
 MODULES = {
     # a shift register with feedback, which can be loaded
@@ -127,100 +132,20 @@ module resets(input clk, input rst, input en, output reg [3:0] count, output reg
 endmodule""",
 }
 
-RECIPE = pathlib.Path(__file__).resolve().parent.parent / "tools" / "blif.ys"
-AS_VERILOG = "read_blif clocked.blif; write_verilog board.v"
-# what gives the registers of an emitted board a clock and an initial value, as docs/yosys.md has it
-CLOCKED = [
-    "sed",
-    "-e",
-    r"/^\.latch/s/ 2$/ 0/",
-    "-e",
-    r"/^\.latch/s/ \([^ ]*\)$/ re clk \1/",
-    "-e",
-    r"s/^\.inputs/& clk/",
-    "-e",
-    r"/^\.subckt/s/ node[0-9]*/& clk=clk/",
-    "board.blif",
-]
 
 
-def run(words, folder):
-    """What a command prints; this program ends where one fails."""
-    done = subprocess.run([str(word) for word in words], cwd=folder, capture_output=True, text=True)
-    if done.returncode != 0:
-        sys.exit(f"{' '.join(map(str, words))}: status {done.returncode}\n{done.stderr}{done.stdout[-2000:]}")
-    return done.stdout
+def as_verilog(models, folder):
+    """Turns the emitted board into Verilog with a clock."""
+    write_text(folder / "clocked.blif", "".join(model.clocked().text() for model in models.values()))
+    run(["yosys", "-q", "-p", "read_blif clocked.blif; write_verilog board.v"], folder)
 
 
-def synthesis(file):
-    """The command that makes a design NAME.blif of NAME.v by the recipe, whose top module is NAME."""
-    name = pathlib.Path(file).stem
-    return ["yosys", "-q", "-r", name, "-s", RECIPE, "-o", f"{name}.blif", file]
-
-
-def ring(cells):
-    """A ring of four chips with the host in it, of two pins each way, whose links take one to three microcycles."""
-    nodes = 5
-    lines = ["board 2", "chips 4", f"cells {-(-cells // 4) + 4}", "settle 1", "pins 8"]
-    for node in range(nodes):
-        after = (node + 1) % nodes
-        lines.append(f"link {node} {after} 2 {1 + node % 3}")
-        lines.append(f"link {after} {node} 2 1")
-    return "\n".join(lines) + "\n"
-
-
-def traced(text):
-    """The outputs of each clock, and the latch values, of a trace without probes."""
-    lines = [line.split() for line in text.splitlines()[1:-1]]
-    return [(outputs.replace("-", ""), latches.replace("-", "")) for _, outputs, latches in lines]
-
-
-def as_verilog(folder):
-    """Turns the emitted board into Verilog with a clock; gives the ports in order."""
-    (folder / "clocked.blif").write_text(run(CLOCKED, folder))
-    run(["yosys", "-q", "-p", AS_VERILOG], folder)
-    text = (folder / "board.v").read_text()
-    return [port.strip() for port in re.search(r"module board\((.*?)\);", text, re.S).group(1).split(",")]
-
-
-def bench(ports, rows, every):
+def bench(board, rows, every):
     """A test bench that holds each row, and prints the outputs before the last edge of each group."""
-    def by_number(letter):
-        return sorted((port for port in ports if re.fullmatch(letter + r"\d+", port)), key=lambda port: int(port[1:]))
-
-    shown = by_number("y") + by_number("s")
-    width = max(1, len(rows[0]))
-    taken = [f".{port}(row[{width - 1 - int(port[1:])}])" for port in by_number("x")]
-    joined = ", ".join([".clk(clk)"] + taken + [f".{port}({port})" for port in shown])
-    return f"""
-module bench;
-  reg clk = 0;
-  reg [{width - 1}:0] rows [0:{len(rows) - 1}];
-  reg [{width - 1}:0] row;
-  wire {", ".join(shown)};
-  integer clock, micro;
-  board dut({joined});
-  initial begin
-    $readmemb("rows.mem", rows);
-    for (clock = 0; clock < {len(rows)}; clock = clock + 1)
-      for (micro = 0; micro < {every}; micro = micro + 1) begin
-        row = rows[clock];
-        #1;
-        if (micro == {every - 1}) $display("{"%b" * len(shown)}", {", ".join(shown)});
-        clk = 1;
-        #1;
-        clk = 0;
-        #1;
-      end
-    $finish;
-  end
-endmodule
-"""
-
-
-def different(one, other):
-    """At how many places two lists differ; those past the end of one of them count."""
-    return sum(left != right for left, right in zip(one, other)) + abs(len(one) - len(other))
+    taken = {port: f"row[{len(board.inputs) - 1 - int(port[1:])}]" for port in board.inputs}
+    ports = {"clk": "clk", **taken, **{port: port for port in board.outputs}}
+    placed = [f"wire {', '.join(board.outputs)};", joined("board", "dut", ports)]
+    return held_bench(placed, board.outputs, max(1, len(rows[0])), len(rows), every)
 
 
 def compare(program, name, source, clocks, chance, folder):
@@ -244,9 +169,10 @@ def compare(program, name, source, clocks, chance, folder):
     wanted = [outputs + latches for outputs, latches in traced(own)]
     by_sim = run([program, "sim", "board.blif", "held.stim"], folder)
     shown = [outputs for outputs, _ in traced(by_sim)][period :: period + 1]
-    ports = as_verilog(folder)
+    models = read_emitted(emitted)
+    as_verilog(models, folder)
     (folder / "rows.mem").write_text("\n".join(rows) + "\n")
-    (folder / "bench.v").write_text(bench(ports, rows, period + 1))
+    (folder / "bench.v").write_text(bench(models["board"], rows, clocks_a_row(models)))
     run(["iverilog", "-g2005", "-o", "bench.out", "bench.v", "board.v"], folder)
     by_other = run(["vvp", "-n", "bench.out"], folder)
     seen = [line for line in by_other.splitlines() if re.fullmatch("[01xz]+", line)]
@@ -258,20 +184,21 @@ def compare(program, name, source, clocks, chance, folder):
     return wrong_sim + wrong_other
 
 
-def main():
-    if len(sys.argv) < 2:
+def work(words):
+    """Does a call, and gives its status."""
+    if not words:
         sys.exit(__doc__)
-    program = pathlib.Path(shutil.which(sys.argv[1]) or sys.argv[1]).resolve()
-    clocks = int(sys.argv[2]) if len(sys.argv) > 2 else 300
-    chance = random.Random(int(sys.argv[3]) if len(sys.argv) > 3 else 1)
+    program = pathlib.Path(shutil.which(words[0]) or words[0]).resolve()
+    clocks = int(words[1]) if len(words) > 1 else 300
+    chance = random.Random(int(words[2]) if len(words) > 2 else 1)
     print("| design | cells | period | cells of its board | text, kB | clocks | differ in `sim` | differ in Icarus |")
     print("|---|---|---|---|---|---|---|---|")
     wrong = 0
     for name, source in {**MODULES, **UNSET}.items():
         with tempfile.TemporaryDirectory() as folder:
             wrong += compare(program, name, source, clocks, chance, pathlib.Path(folder))
-    sys.exit(1 if wrong else 0)
+    return 1 if wrong else 0
 
 
 if __name__ == "__main__":
-    main()
+    sys.exit(status_of(work, sys.argv[1:]))

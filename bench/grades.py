@@ -14,10 +14,10 @@ import sys
 import tempfile
 
 sys.dont_write_bytecode = True
-from emitted import RECIPE, run, synthesis
+from emitted import run, synthesis
 from traces import DRIVEN, printed, written
 
-SEEN = RECIPE.parent / "seen.awk"
+SEEN = pathlib.Path(__file__).resolve().parent.parent / "tools" / "seen.awk"
 
 
 def graded(program, name, clocks, seed, folder):

@@ -19,12 +19,15 @@ import pathlib
 import random
 import re
 import shutil
-import subprocess
 import sys
 import tempfile
 
 sys.dont_write_bytecode = True
-from emitted import MODULES, ring, run, synthesis
+sys.path.insert(0, str(pathlib.Path(__file__).resolve().parent.parent / "tools"))
+from emitted import MODULES
+from lib.calls import done, run, status_of, synthesis
+from lib.hardware import ring
+from lib.texts import traced
 
 VERILOG = pathlib.Path(__file__).resolve().parent / "verilog"
 # of designs with a test bench of their own, the registers that it prints, in order
@@ -89,9 +92,9 @@ def written(name, folder):
 def refusal(program, name, folder):
     """What yosys or vwires writes where it refuses a design, or an empty text."""
     for command in [synthesis(written(name, folder)), [program, "nets", f"{name}.blif"]]:
-        done = subprocess.run(list(map(str, command)), cwd=folder, capture_output=True, text=True)
-        if done.returncode != 0:
-            return done.stderr.strip()
+        ended = done(command, folder)
+        if ended.returncode != 0:
+            return ended.stderr.strip()
     return ""
 
 
@@ -203,11 +206,6 @@ def clocks_apart(seen, shown):
     return apart + abs(len(seen) - len(shown))
 
 
-def bits_in(text):
-    """The bits of outputs and probes in each clock of a trace."""
-    return [line.split()[1] for line in text.splitlines()[1:-1]]
-
-
 def compare(program, name, clocks, chance, folder):
     """A line of the table of designs that run, and how many clocks differ."""
     file = written(name, folder)
@@ -225,7 +223,7 @@ def compare(program, name, clocks, chance, folder):
     by_sim = run([program, "sim", f"{name}.blif", "rows.stim", *probes], folder)
     words = ["ring.board", "rows.stim", "workers=2", "unknown=1", *probes]
     by_run = run([program, "run", f"{name}.blif", *words], folder)
-    apart = [clocks_apart(bits, bits_in(text)) for text in (by_sim, by_run)]
+    apart = [clocks_apart(bits, [outputs for outputs, _ in traced(text)]) for text in (by_sim, by_run)]
     latches = by_sim.split("\n", 1)[0].split()[-1]
     outputs, unknown = len(bits[0]) - len(probes), sum(row.count("x") + row.count("z") for row in bits)
     sizes = f"{cells} | {latches} | {outputs} | {len(probes)} | {len(seen):,} | {unknown}"
@@ -242,17 +240,18 @@ def refused(program, name, folder):
     return not expected
 
 
-def main():
-    if len(sys.argv) < 2:
+def work(words):
+    """Does a call, and gives its status."""
+    if not words:
         sys.exit(__doc__)
     missing = [tool for tool in ["yosys", "iverilog", "vvp"] if not shutil.which(tool)]
     if missing:
         print(f"not installed, so nothing was compared: {' '.join(missing)}")
-        return
-    program = pathlib.Path(shutil.which(sys.argv[1]) or sys.argv[1]).resolve()
-    clocks = int(sys.argv[2]) if len(sys.argv) > 2 else 2000
-    seed = sys.argv[3] if len(sys.argv) > 3 else "1"
-    chosen = sys.argv[4:] or names()
+        return 0
+    program = pathlib.Path(shutil.which(words[0]) or words[0]).resolve()
+    clocks = int(words[1]) if len(words) > 1 else 2000
+    seed = words[2] if len(words) > 2 else "1"
+    chosen = words[3:] or names()
     print("| design | cells | latches | outputs | probes | clocks | unknown bits | differ in `sim` | differ in `run` |")
     print("|---|---|---|---|---|---|---|---|---|")
     wrong = 0
@@ -267,8 +266,8 @@ def main():
     for name in rejected:
         with tempfile.TemporaryDirectory() as folder:
             wrong += refused(program, name, pathlib.Path(folder))
-    sys.exit(1 if wrong else 0)
+    return 1 if wrong else 0
 
 
 if __name__ == "__main__":
-    main()
+    sys.exit(status_of(work, sys.argv[1:]))
