@@ -1,18 +1,14 @@
 """Tests of tools/buses."""
 import bisect
 import os
-import pathlib
 import random
 import shutil
 import subprocess
-import tempfile
 import unittest
 
-TESTS = pathlib.Path(__file__).resolve().parent
-BUSES = TESTS.parent / "buses"
-RECIPE = TESTS.parent / "blif.ys"
-DATA = TESTS.parent.parent / "crates" / "vwires" / "data"
-VWIRES = os.environ.get("VWIRES", "")
+from cases import DATA, RECIPE, TESTS, TOOLS, VWIRES, Case
+
+BUSES = TOOLS / "buses"
 HEAD = "$timescale 1 s $end\n$scope module design $end\n"
 BODY = "$upscope $end\n$enddefinitions $end\n"
 
@@ -58,27 +54,8 @@ def value_at(moments, time):
     return moments[bisect.bisect_right(moments, time, key=lambda moment: moment[0]) - 1][1]
 
 
-class Case(unittest.TestCase):
-    """A test with a folder of its own."""
-
-    def setUp(self):
-        folder = tempfile.TemporaryDirectory()
-        self.addCleanup(folder.cleanup)
-        self.folder = pathlib.Path(folder.name)
-
-    def write(self, name, text):
-        (self.folder / name).write_bytes(text.encode("latin-1"))
-        return name
-
-    def run_words(self, words):
-        words = [str(word) for word in words]
-        return subprocess.run(words, cwd=self.folder, capture_output=True, text=True, check=False)
-
-    def printed(self, *words):
-        """What a command prints, which has to end with 0 and write no message."""
-        done = self.run_words(words)
-        self.assertEqual((done.returncode, done.stderr), (0, ""), words)
-        return done.stdout
+class Buses(Case):
+    """A test with new waves."""
 
     def joined(self, design, wave, stimulus=None):
         """The new wave of texts."""
@@ -95,7 +72,7 @@ class Case(unittest.TestCase):
         return [" ".join([words[0], *words[2:-1]]) for words in map(str.split, kept)]
 
 
-class Samples(Case):
+class Samples(Buses):
     """Waves by hand, with what has to become of them."""
 
     def test_a_sample_with_its_stimulus(self):
@@ -199,7 +176,7 @@ class Samples(Case):
         self.assertIn(b"$var wire 1 ! \\\xe9\xa0x $end\n", done.stdout)
 
 
-class Faults(Case):
+class Faults(Buses):
     """Each error has its line and its status."""
 
     def refused(self, design, wave, stimulus, status, line):
@@ -267,7 +244,7 @@ class Faults(Case):
 
 
 @unittest.skipUnless(VWIRES, "no vwires")
-class WavesOfVwires(Case):
+class WavesOfVwires(Buses):
     """Waves that vwires wrote."""
 
     def test_values_are_those_of_the_trace(self):
