@@ -3,7 +3,7 @@ import re
 import unittest
 import xml.etree.ElementTree as tree
 
-from cases import DATA, TOOLS, VWIRES, Case, full_board
+from cases import DATA, ROOT, TOOLS, VWIRES, Case, full_board
 
 PICTURE = TOOLS / "picture"
 SVG = "{http://www.w3.org/2000/svg}"
@@ -38,6 +38,10 @@ class Pictures(Case):
         self.assertEqual(sorted(slots), [f"{slot}, pin 0" for slot in [*sent, "q to host, microcycle 0"]])
         self.assertIn("link 3, chip 1 to chip 2: 1 pin, delay 1, 1 of 2 slots, 50 %", texts)
         self.assertNotIn("script", (self.folder / "p.svg").read_text())
+
+    def test_the_picture_of_the_tour(self):
+        self.drawn(DATA / "updown.blif", DATA / "duo.board")
+        self.assertEqual((self.folder / "p.svg").read_text(), (ROOT / "docs" / "plan.svg").read_text())
 
     def test_links_stand_by_their_fill_and_those_of_the_chain_are_kept(self):
         self.write("b.board", full_board(2, 6, 1, 2))
