@@ -1,9 +1,11 @@
 """Tests of tools/bitstreams: boards become bitstreams, which are decoded and compared; wrong ones are found."""
 import os
+import pathlib
 import re
 import shutil
 import sys
 import unittest
+import unittest.mock
 
 from cases import DATA, ROOT, TOOLS, VWIRES, Case, full_board
 from lib import devices, wiring
@@ -14,6 +16,8 @@ from lib.texts import read_board
 BITSTREAMS = TOOLS / "bitstreams"
 PROGRAMS = ["yosys", "nextpnr-ice40", "icepack", "iceunpack", "icebox_vlog", "iverilog"]
 MISSING = [program for program in PROGRAMS if not shutil.which(program)]
+if not any((pathlib.Path(folder) / "chipdb-1k.txt").exists() for folder in devices.FOLDERS):
+    MISSING.append("fpga-icestorm-chipdb")
 SMALL = ["--device", "hx1k", "--package", "tq144"]
 # gives each latch of an emitted board a clock, as docs/yosys.md has it
 CLOCKED = r"""sed -e '/^\.latch/s/ 2$/ 0/' -e '/^\.latch/s/ \([^ ]*\)$/ re clk \1/' \
@@ -84,8 +88,8 @@ class Compared(Bitstreams):
         words = ["--out", "o", "--verify", DATA / "toggle.stim", "--copper", "1.5"]
         for device, package in [("hx8k", "ct256"), ("up5k", "sg48")]:
             text = self.compared(3, 1, *files, *words, "--device", device, "--package", package)
-            self.assertRegex(text, r"step [0-9.]+ ns, limited between chips, .* 1\.5 of copper")
-            self.assertRegex(text, r"clock of the design [0-9.]+ MHz, 3 steps")
+            self.assertRegex(text, r"microclock [0-9.]+ ns, limited between chips, .* 1\.5 of copper")
+            self.assertRegex(text, r"clock of the design [0-9.]+ MHz, 3 microclocks")
 
     def test_latches_without_a_value_start_as_is_said(self):
         design = self.write("d.blif", ".model d\n.inputs a\n.outputs q\n.latch a q 2\n.end\n")
@@ -210,7 +214,15 @@ class Refusals(Bitstreams):
         self.assertIn("tools/bitstreams DESIGN BOARD --out DIR", self.printed(BITSTREAMS, "--help"))
 
 
-@unittest.skipIf("nextpnr-ice40" in MISSING or "icepack" in MISSING, "no fpga-icestorm")
+class Chips(unittest.TestCase):
+    def test_a_database_that_is_missing(self):
+        with unittest.mock.patch.object(devices, "FOLDERS", []), self.assertRaises(Refused) as refused:
+            devices.package_of("hx8k", "ct256")
+        wanted = "chipdb-8k.txt isn't installed: apt install fpga-icestorm-chipdb"
+        self.assertEqual(str(refused.exception), wanted)
+
+
+@unittest.skipIf("fpga-icestorm-chipdb" in MISSING, "no fpga-icestorm-chipdb")
 class Wiring(unittest.TestCase):
     def test_pads_are_assigned_once_and_read_back(self):
         board = read_board(full_board(3, 10, 7, 2))
