@@ -209,7 +209,7 @@ class Stimulus(Case):
         outputs = self.outputs_as_inputs("o.blif", " ".join([*(f"acc[{place}]" for place in range(20)), "busy"]))
         self.agrees(design, "icarus.vcd", ["--clock", "clk", "--unknown", "0", "--scope", "bench.dut"], outputs)
 
-    @unittest.skipUnless(shutil.which("verilator") and shutil.which("g++") and shutil.which("make"), "no verilator")
+    @unittest.skipUnless(all(map(shutil.which, ["verilator", "g++", "make"])), "no verilator, g++ or make")
     def test_a_waveform_of_verilator(self):
         self.write("main.cpp", DRIVER)
         words = ["--cc", "--exe", "--build", "--trace", "-Wno-fatal", "--top-module", "updown", DATA / "updown.v"]
