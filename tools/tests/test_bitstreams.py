@@ -99,6 +99,13 @@ class Compared(Bitstreams):
             words = ["--out", "o", "--verify", "s.stim", "--unknown", unknown]
             self.compared(3, 1, design, "b.board", *SMALL, *words)
 
+    def test_a_chip_that_nothing_comes_from(self):
+        design = self.write("d.blif", ".model d\n.inputs a\n.outputs y\n.latch a q 0\n.names a y\n0 1\n.end\n")
+        self.write("b.board", full_board(2, 1, 1, 1))
+        self.write("s.stim", rows_by_turns(1, 20))
+        text = self.compared(20, 1, design, "b.board", *SMALL, "--out", "o", "--verify", "s.stim")
+        self.assertEqual(len(re.findall("^chip[12] ", text, re.M)), 2)
+
     def test_a_table_that_was_changed_is_found(self):
         files = [DATA / "toggle.blif", DATA / "triangle.board"]
         text = self.printed(VWIRES, "emit", *files, f"plan={DATA / 'toggle.plan'}")
@@ -206,7 +213,7 @@ class Refusals(Bitstreams):
         ]:
             self.refused(f"pins.txt: {says}", *words, "--pins", self.write("pins.txt", f"{good}{line} # not so\n"))
         done = self.called(*words, "--pins", self.write("pins.txt", good))
-        self.assertRegex(done.stderr, r"\nchip[12]: p[0-9]+_0 has no pad in --pins\n$")
+        self.assertRegex(done.stderr, r"\nchip[12]: the wiring has no p[0-9]+_0\n$")
 
     def test_words(self):
         for words in [[], ["d.blif", "b.board"], [*self.files, "--device", "hx4k"], [*self.files, "--emitted", "e"]]:
