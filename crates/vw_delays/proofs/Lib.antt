@@ -1,0 +1,3 @@
+pub mod LevelDelays
+pub mod LeastPaths
+pub mod DelayRows
