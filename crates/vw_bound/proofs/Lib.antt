@@ -1,0 +1,3 @@
+pub mod BroughtWires
+pub mod SoonLeads
+pub mod DuePeriods

@@ -1,0 +1,4 @@
+pub mod PlacedDesigns
+pub mod Times
+pub mod Pins
+pub mod Bounds

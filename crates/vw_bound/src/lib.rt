@@ -1,0 +1,6 @@
+//! Periods that no plan can undercut: by the depth of a design with the delays of its board, and by the pins of nodes.
+#![tactic(auto)]
+
+mod laws;
+
+pub use laws::depths_bound_periods;
