@@ -85,7 +85,7 @@ module _ (board : Board) (way : ℕ → ℕ → ℕ) (ways : AreWays board.links
 
 module _ (planned : PlannedBoard) (sound : IsSound planned) (way : ℕ → ℕ → ℕ) (ways : AreWays planned.board.links way) where
   -- the wire's bit arrives no sooner than its net is usable and the way takes
-  wire_late : (number : ℕ) (wire : Wire) → slice_get planned.plan.wires number ≡ Some wire
+  pub wire_late : (number : ℕ) (wire : Wire) → slice_get planned.plan.wires number ≡ Some wire
       → usable planned (home planned wire.net) wire.net + way (home planned wire.net) wire.to ≤ after_last planned.board.links wire.hops
   wire_late number wire stands =
       let routed : IsRouted planned wire = at_place (IsRouted planned) planned.plan.wires number wire sound.routes stands in

@@ -24,19 +24,8 @@ use Rattle.vw_bound.specs.PlacedDesigns.{PlacedDesign, placed_by, placed_design}
 use Rattle.vw_bound.specs.Times.{cells_due_by, depth_bound, due_by, soon, there_by}
 use Rattle.vw_bound.specs.Bounds.{IsPeriodBound}
 use Rattle.vw_bound.proofs.BroughtWires.{pair_in_period}
+use Rattle.vw_bound.proofs.ListedNeeds.{listed_needed}
 use Rattle.vw_bound.proofs.SoonLeads.{IsSoonBy, lead_away, soon_late, there_late, usable_home}
-
--- a listed pair is needed
-pub listed_needed : (planned : PlannedBoard) (need : Need) (place : ℕ) → slice_get (needed_pairs planned.ordered.flat planned.plan.chip_of) place ≡ Some need
-    → is_needed planned.ordered.flat planned.plan.chip_of need.net need.to ≡ true
-listed_needed planned need place at = sym (any-needed_pairs planned.ordered.flat planned.plan.chip_of need.net need.to) ∙ any_at (needed_pairs planned.ordered.flat planned.plan.chip_of) place at where
-  own : is_pair need.net need.to need ≡ true
-  own = and_from (eqb need.net need.net) (eqb need.to need.to) (eq-eqb need.net need.net refl) (eq-eqb need.to need.to refl)
-
-  any_at : (needs : List Need) (at : ℕ) → slice_get needs at ≡ Some need → list_any (is_pair need.net need.to) needs ≡ true
-  any_at [] at is = cc
-  any_at (first ∷ needs) zero is = let same : first ≡ need = cc in or_left (is_pair need.net need.to first) (list_any (is_pair need.net need.to) needs) (ap (is_pair need.net need.to) same ∙ own)
-  any_at (first ∷ needs) (suc at) is = or_right (is_pair need.net need.to first) (list_any (is_pair need.net need.to) needs) (any_at needs at is)
 
 -- numbers of needs, each of which is at most a number
 needs_below : (f : Need → ℕ) (most : ℕ) (needs : List Need) → ((need : Need) (place : ℕ) → slice_get needs place ≡ Some need → f need ≤ most) → greatest (map f needs) ≤ most
@@ -57,7 +46,7 @@ module _ (planned : PlannedBoard) (sound : IsSound planned) (ways : AreWays plan
 
   needs_due : greatest (map (λ (need : Need). due_at need.net need.to) (needed_pairs planned.ordered.flat planned.plan.chip_of)) ≤ planned.plan.period
   needs_due = needs_below (λ need. due_at need.net need.to) planned.plan.period (needed_pairs planned.ordered.flat planned.plan.chip_of) (λ need place at.
-      let needed = listed_needed planned need place at in
+      let needed = listed_needed planned.ordered.flat planned.plan.chip_of need place at in
       omega (arith, there_late planned sound ways soon_of need.net need.to (late need.net) needed, pair_in_period planned sound need.net need.to needed))
 
   -- the node of a cell's net is the cell's chip

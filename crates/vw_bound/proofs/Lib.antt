@@ -1,3 +1,10 @@
 pub mod BroughtWires
+pub mod ListedNeeds
 pub mod SoonLeads
 pub mod DuePeriods
+pub mod SoonLevels
+pub mod SoonTables
+pub mod Counting
+pub mod SlotCounts
+pub mod PressedPairs
+pub mod NodePins

@@ -2,3 +2,5 @@ pub mod PlacedDesigns
 pub mod Times
 pub mod Pins
 pub mod Bounds
+pub mod Given
+pub mod Steps
