@@ -1,5 +1,5 @@
 -- When a needed pair is there: the wire that brings it, and how long its bit is under way.
-use Rattle.std.proofs.Common.{◌≡◌, ◌<◌, ◌≤◌, ◌+◌, ◌&&◌, ℕ, Bool, true, false, List, [], ◌∷◌, length, slice_get, eqb, nat_lt, cond, ap, refl, sym, ◌∙◌, Option, Some, None, eqb-true, true≢false, All, arith}
+use Rattle.std.proofs.Common.{◌≡◌, ◌<◌, ◌≤◌, ◌+◌, ℕ, Bool, true, List, [], ◌∷◌, slice_get, eqb, nat_lt, cond, ap, refl, sym, ◌∙◌, Option, Some, None, eqb-true, true≢false, All, arith}
 use Rattle.std.specs.List.{find, list_any}
 use Rattle.std.specs.Option.{option_map_or}
 use Rattle.std.proofs.lemmas.Bool.{and_parts, ltb-true}
@@ -14,7 +14,6 @@ use Rattle.vw_plan.specs.Lead.{after_last, arrival, brings, brought_at, usable}
 use Rattle.vw_plan.specs.Nets.{is_needed}
 use Rattle.vw_plan.specs.PlannedBoard.{PlannedBoard, home}
 use Rattle.vw_plan.specs.Sound.{IsRising, IsRouted, IsSound, has_pin, leads_to, rises}
-use Rattle.vw_plan.specs.Wiring.{BeginsWire, EndsWire}
 use Rattle.vw_plan.proofs.HopLinks.{HopFacts, HopLink, hop_facts, hop_link}
 use Rattle.vw_plan.proofs.HopsOfWires.{at_place}
 use Rattle.vw_plan.proofs.WireEnds.{FirstHop, LastHop, first_hop, last_hop}

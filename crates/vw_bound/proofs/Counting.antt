@@ -1,5 +1,5 @@
 -- Counts by parts, and counts of pairs and of what each of them has.
-use Rattle.std.proofs.Common.{◌≡◌, ◌<◌, ◌≤◌, ◌+◌, ◌&&◌, ◌++◌, ℕ, zero, suc, Bool, true, false, List, [], ◌∷◌, length, map, slice_get, Some, eqb, cond, ap, ap₂, refl, sym, ◌∙◌, ◌⊎◌, ⊎_elim, eqb-true, true≢false, arith}
+use Rattle.std.proofs.Common.{◌≡◌, ◌≤◌, ◌+◌, ◌++◌, ℕ, suc, Bool, true, false, List, [], ◌∷◌, slice_get, Some, eqb, cond, ap, ap₂, refl, sym, ◌∙◌, ◌⊎◌, ⊎_elim, eqb-true, true≢false, arith}
 use Rattle.std.specs.List.{count_by, flat_map, list_any}
 use Rattle.std.proofs.lemmas.Bool.{and_parts, cases_Bool, or_cases}
 use Rattle.vw_net.specs.Steps.Bits.{one_if}

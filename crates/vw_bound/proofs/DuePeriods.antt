@@ -1,21 +1,16 @@
 -- What needed pairs and latches ask of a period.
-use Rattle.std.proofs.Common.{◌≡◌, ◌<◌, ◌≤◌, ◌+◌, ◌-◌, ◌&&◌, ℕ, zero, suc, Bool, true, false, List, [], ◌∷◌, length, map, max, get_or, slice_get, slice_index, eqb, cond, nat_lt, le-ltb, ap, refl, sym, subst, ◌∙◌, Option, Some, None, ⊎_elim, eq-eqb, eqb-true, All, arith}
-use Rattle.std.specs.List.{list_any}
-use Rattle.std.proofs.lemmas.Bool.{and_from, cases_Bool, or_left, or_right}
-use Rattle.std.proofs.lemmas.List.Elements.{All-head, All-tail}
+use Rattle.std.proofs.Common.{◌≡◌, ◌≤◌, ◌+◌, ◌-◌, ℕ, suc, Bool, true, false, List, [], ◌∷◌, map, slice_get, slice_index, eqb, cond, nat_lt, le-ltb, ap, refl, sym, subst, ◌∙◌, Option, Some, ⊎_elim, eq-eqb, eqb-true, arith}
+use Rattle.std.proofs.lemmas.Bool.{cases_Bool, or_left}
 use Rattle.vw_net.specs.declared.cell.Cell.{Cell}
 use Rattle.vw_net.specs.declared.cell.Cell.TheVariants.{Gate, Latch}
 use Rattle.vw_net.specs.Lists.{greatest}
 use Rattle.vw_net.specs.Order.{is_among, read_nets_at}
 use Rattle.vw_net.specs.declared.cell.Init.{Init}
 use Rattle.vw_plan.specs.declared.need.Need.{Need}
-use Rattle.vw_plan.specs.declared.plan.Plan.{Plan}
-use Rattle.vw_plan.specs.Lead.{brought_at, lead, usable}
-use Rattle.vw_plan.specs.Needs.{is_pair, needed_pairs}
-use Rattle.vw_plan.specs.Nets.{driving_cell, is_needed, node_of}
+use Rattle.vw_plan.specs.Lead.{usable}
+use Rattle.vw_plan.specs.Needs.{needed_pairs}
 use Rattle.vw_plan.specs.PlannedBoard.{PlannedBoard, home, planned_board}
 use Rattle.vw_plan.specs.Sound.{IsSound}
-use Rattle.vw_plan.proofs.NeededPairs.{any-needed_pairs}
 use Rattle.vw_plan.proofs.ReadNets.{read_needed}
 use Rattle.vw_delays.specs.Delays.{least_delay}
 use Rattle.vw_delays.specs.Ways.{AreWays}
@@ -25,7 +20,7 @@ use Rattle.vw_bound.specs.Times.{cells_due_by, depth_bound, due_by, soon, there_
 use Rattle.vw_bound.specs.Bounds.{IsPeriodBound}
 use Rattle.vw_bound.proofs.BroughtWires.{pair_in_period}
 use Rattle.vw_bound.proofs.ListedNeeds.{listed_needed}
-use Rattle.vw_bound.proofs.SoonLeads.{IsSoonBy, lead_away, soon_late, there_late, usable_home}
+use Rattle.vw_bound.proofs.SoonLeads.{IsSoonBy, soon_late, there_late, usable_home}
 
 -- numbers of needs, each of which is at most a number
 needs_below : (f : Need → ℕ) (most : ℕ) (needs : List Need) → ((need : Need) (place : ℕ) → slice_get needs place ≡ Some need → f need ≤ most) → greatest (map f needs) ≤ most

@@ -8,3 +8,5 @@ pub mod Counting
 pub mod SlotCounts
 pub mod PressedPairs
 pub mod NodePins
+pub mod RisingTimes
+pub mod NodeLinks

@@ -1,5 +1,5 @@
 -- What is listed as a needed pair, and how cells are gone over.
-use Rattle.std.proofs.Common.{◌≡◌, ◌<◌, ◌≤◌, ◌+◌, ◌&&◌, ◌||◌, ℕ, zero, suc, Bool, true, false, List, [], ◌∷◌, length, map, max, drop, get_or, slice_get, eqb, ap, refl, sym, ◌∙◌, Some, ⊎_elim, true≢false, eq-eqb, add-one, All, arith}
+use Rattle.std.proofs.Common.{◌≡◌, ◌<◌, ◌≤◌, ◌+◌, ℕ, zero, suc, true, List, [], ◌∷◌, length, max, drop, get_or, slice_get, eqb, ap, refl, sym, ◌∙◌, Some, ⊎_elim, true≢false, eq-eqb, All, arith}
 use Rattle.std.specs.List.{list_any}
 use Rattle.std.proofs.lemmas.Bool.{and_from, cases_lt, or_left, or_right}
 use Rattle.std.proofs.lemmas.List.{drop_more}
@@ -12,7 +12,7 @@ use Rattle.vw_plan.specs.declared.need.Need.{Need}
 use Rattle.vw_plan.specs.Needs.{is_pair, needed_pairs}
 use Rattle.vw_plan.specs.Nets.{is_needed}
 use Rattle.vw_plan.proofs.NeededPairs.{any-needed_pairs, past_node}
-use Rattle.vw_bound.specs.PlacedDesigns.{PlacedDesign, flat_of}
+use Rattle.vw_bound.specs.PlacedDesigns.{PlacedDesign}
 use Rattle.vw_bound.specs.Times.{cell_due_by, cells_due_by}
 
 -- a pair is its own

@@ -1,18 +1,18 @@
 -- The pins of each node have room for its pairs in the period of each sound plan.
-use Rattle.std.proofs.Common.{◌≡◌, ◌<◌, ◌≤◌, ◌+◌, ◌-◌, ◌*◌, ◌&&◌, ◌==◌, ℕ, Bool, true, List, nat_le, eqb, slice_get, Some, ap, refl, sym, ◌∙◌, eqb-true, eq-eqb, subst, arith}
+use Rattle.std.proofs.Common.{◌≡◌, ◌≤◌, ◌+◌, ◌-◌, ◌*◌, ◌&&◌, ◌==◌, ℕ, Bool, true, List, nat_le, eqb, slice_get, Some, ◌∙◌, eqb-true, eq-eqb, subst, arith}
 use Rattle.std.proofs.lemmas.Bool.{and_parts, leb-true}
 use Rattle.vw_plan.specs.declared.link.Link.{Link}
 use Rattle.vw_plan.specs.declared.need.Need.{Need}
 use Rattle.vw_plan.specs.declared.wire.Wire.{Wire}
 use Rattle.vw_plan.specs.Needs.{needed_pairs}
-use Rattle.vw_plan.specs.PlannedBoard.{PlannedBoard, home, planned_board}
+use Rattle.vw_plan.specs.PlannedBoard.{PlannedBoard, planned_board}
 use Rattle.vw_plan.specs.declared.plan.Plan.{Plan}
 use Rattle.vw_plan.specs.Sound.{IsSound}
 use Rattle.vw_delays.specs.Delays.{least_delay}
 use Rattle.vw_delays.proofs.LevelDelays.{least_ways}
-use Rattle.vw_bound.specs.PlacedDesigns.{PlacedDesign, flat_of, placed_by, placed_design}
+use Rattle.vw_bound.specs.PlacedDesigns.{PlacedDesign, placed_by, placed_design}
 use Rattle.vw_bound.specs.Pins.{PairsFit, late_pairs, pins_into}
-use Rattle.vw_bound.specs.Times.{soon, there}
+use Rattle.vw_bound.specs.Times.{there}
 use Rattle.vw_bound.proofs.BroughtWires.{wire_late}
 use Rattle.vw_bound.proofs.PressedPairs.{LastLink, Presses, last_link, pair_of, pressed_fit}
 use Rattle.vw_bound.proofs.SoonLeads.{soon_late, usable_home}

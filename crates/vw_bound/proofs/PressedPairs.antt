@@ -1,7 +1,7 @@
 -- Needed pairs that press on the pins of some links: no more of them can be there within some microcycles than these pins
 -- have room for.
-use Rattle.std.proofs.Common.{◌≡◌, ◌<◌, ◌≤◌, ◌+◌, ◌-◌, ◌*◌, ◌&&◌, ℕ, suc, Bool, true, false, List, [], ◌∷◌, length, map, slice_get, Some, nat_le, nat_lt, eqb, cond, ap, refl, sym, subst, ◌∙◌, lt-ltb, le-leb, arith}
-use Rattle.std.specs.List.{count_by, flat_map, list_any}
+use Rattle.std.proofs.Common.{◌≡◌, ◌<◌, ◌≤◌, ◌+◌, ◌-◌, ◌*◌, ◌&&◌, ℕ, Bool, true, List, length, map, slice_get, Some, nat_le, nat_lt, sym, ◌∙◌, lt-ltb, le-leb, arith}
+use Rattle.std.specs.List.{count_by, list_any}
 use Rattle.std.proofs.lemmas.Bool.{and_from}
 use Rattle.vw_net.proofs.CountsOverLists.{count_map}
 use Rattle.vw_net.proofs.ListedLists.{any_stands}

@@ -1,12 +1,9 @@
 -- How many hops of a sound plan can arrive over the pins of some links, from one microcycle on up to another.
-use Rattle.std.proofs.Common.{◌≡◌, ◌<◌, ◌≤◌, ◌+◌, ◌-◌, ◌*◌, ◌&&◌, ◌||◌, ◌==◌, ℕ, zero, suc, Bool, true, false, List, [], ◌∷◌, length, slice_get, Some, nat_le, nat_lt, eqb, cond, ap, refl, sym, ◌∙◌, ◌⊎◌, inl, inr, ⊎_elim, eqb-true, eq-eqb, true≢false, lt-ltb, le-leb, arith}
-use Rattle.std.specs.Prelude.{sum_by}
+use Rattle.std.proofs.Common.{◌≡◌, ◌<◌, ◌≤◌, ◌+◌, ◌-◌, ◌*◌, ◌&&◌, ◌==◌, ℕ, zero, suc, Bool, true, false, List, [], ◌∷◌, slice_get, Some, nat_le, nat_lt, eqb, cond, ap, refl, sym, ◌∙◌, ◌⊎◌, inl, inr, ⊎_elim, eqb-true, eq-eqb, lt-ltb, arith}
 use Rattle.std.specs.List.{count_by, list_any}
 use Rattle.std.proofs.Math.Nat.{suc-mul, add-mul}
 use Rattle.std.proofs.lemmas.Bool.{and_from, and_left, and_parts, cases_Bool, cases_lt, leb-true, ltb-true, or_cases}
 use Rattle.std.proofs.lemmas.List.Sums.{sum_by-cons}
-use Rattle.vw_net.specs.Steps.Bits.{one_if}
-use Rattle.vw_net.proofs.CountsOverLists.{count_le}
 use Rattle.vw_plan.specs.declared.board.Board.{Board}
 use Rattle.vw_plan.specs.declared.link.Link.{Link}
 use Rattle.vw_plan.specs.declared.wire.Hop.{Hop}

@@ -1,13 +1,12 @@
 -- Numbers that no lead of a sound plan is below.
-use Rattle.std.proofs.Common.{◌≡◌, ◌<◌, ◌≤◌, ◌+◌, ◌-◌, ◌&&◌, ℕ, zero, suc, Bool, true, false, List, [], ◌∷◌, length, map, max, slice_get, slice_index, nat_lt, eqb, cond, ap, refl, sym, subst, ◌∙◌, Option, Some, None, ⊎_elim, eq-eqb, eqb-true, All, arith}
+use Rattle.std.proofs.Common.{◌≡◌, ◌≤◌, ◌+◌, ◌-◌, ◌&&◌, ℕ, zero, suc, Bool, true, false, List, [], ◌∷◌, length, map, slice_get, slice_index, nat_lt, eqb, cond, ap, refl, ◌∙◌, Option, Some, None, ⊎_elim, eq-eqb, eqb-true, arith}
 use Rattle.std.proofs.lemmas.Bool.{cases_Bool, or_right}
-use Rattle.std.proofs.lemmas.List.Elements.{All-head, All-tail}
 use Rattle.vw_net.specs.declared.cell.Cell.{Cell}
 use Rattle.vw_net.specs.declared.cell.Cell.TheVariants.{Gate, Latch}
 use Rattle.vw_net.specs.Lists.{greatest}
 use Rattle.vw_net.specs.Order.{gate_inputs, is_among, is_gate, read_nets_at}
 use Rattle.vw_plan.specs.Lead.{brought_at, lead, usable}
-use Rattle.vw_plan.specs.Nets.{driving_cell, greatest_read, is_needed, node_of}
+use Rattle.vw_plan.specs.Nets.{driving_cell, greatest_read, is_needed}
 use Rattle.vw_plan.specs.PlannedBoard.{PlannedBoard, home}
 use Rattle.vw_plan.specs.Sound.{IsSound}
 use Rattle.vw_plan.proofs.GreatestReads.{greatest_read-least}

@@ -1,5 +1,5 @@
 -- Least microcycles at levels: how many drivers have to be followed until one stays.
-use Rattle.std.proofs.Common.{◌≡◌, ◌≤◌, ◌+◌, ◌*◌, ◌^◌, ℕ, zero, suc, Bool, true, false, length, get_or, eqb, cond, ap, sym, ◌∙◌, All, arith}
+use Rattle.std.proofs.Common.{◌≡◌, ◌≤◌, ◌+◌, ◌*◌, ◌^◌, ℕ, zero, suc, true, false, length, get_or, eqb, cond, ap, sym, ◌∙◌, All, arith}
 use Rattle.std.proofs.Math.Path.{fun_ext}
 use Rattle.vw_net.proofs.Orders.{length-order}
 use Rattle.vw_net.specs.Order.{gate_inputs, is_gate}

@@ -1,5 +1,5 @@
 -- The table of least microcycles, as gates are gone over in their order.
-use Rattle.std.proofs.Common.{◌≡◌, ◌<◌, ◌≤◌, ◌+◌, ◌-◌, ◌^◌, ◌||◌, ℕ, Bool, true, false, List, [], length, take, replicate, get_or, set, slice_get, slice_index, nat_lt, eqb, cond, ap, ap₂, refl, sym, ◌∙◌, ⊎_elim, le-ltb, true≢false, subst, Option, Some, None, All, arith}
+use Rattle.std.proofs.Common.{◌≡◌, ◌<◌, ◌≤◌, ◌+◌, ◌-◌, ◌^◌, ◌||◌, ℕ, Bool, true, false, List, [], length, take, replicate, get_or, set, slice_get, slice_index, nat_lt, cond, ap, ap₂, refl, sym, ◌∙◌, ⊎_elim, le-ltb, true≢false, subst, Option, Some, None, All, arith}
 use Rattle.std.proofs.Math.Bool.{or-false}
 use Rattle.std.proofs.lemmas.Bool.{cases_eq, cases_lt, or_cases}
 use Rattle.std.proofs.lemmas.Grind.{get_or-set_at}

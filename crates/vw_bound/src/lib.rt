@@ -3,8 +3,11 @@
 
 mod depth;
 mod laws;
+mod periods;
 mod placed;
+mod rooms;
 mod table;
 mod times;
 
 pub use laws::{depths_bound_periods, pairs_fit_in_periods};
+pub use periods::bound;

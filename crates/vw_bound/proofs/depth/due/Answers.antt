@@ -1,4 +1,4 @@
-use Rattle.std.proofs.Common.{◌≤◌, List, All, sym, subst}
+use Rattle.std.proofs.Common.{◌≤◌, All, sym, subst}
 use Rattle.vw_plan.specs.declared.need.Need.{Need}
 use Rattle.vw_bound.proofs.ListedNeeds.{needs_on_board}
 use Rattle.vw_bound.proofs.depth.due.Goals as goal
