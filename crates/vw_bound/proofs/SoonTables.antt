@@ -16,7 +16,7 @@ use Rattle.vw_plan.proofs.AlongOrder.{All-gate_reads}
 use Rattle.vw_plan.proofs.GreatestReads.{greatest_read-agree}
 use Rattle.vw_bound.specs.PlacedDesigns.{PlacedDesign, home_in}
 use Rattle.vw_bound.specs.Times.{read_by, soon}
-use Rattle.vw_bound.specs.Steps.Tables.{AreLow, IsSoonTable, cell_by}
+use Rattle.vw_bound.specs.Tables.{AreLow, IsSoonTable, cell_by}
 use Rattle.vw_bound.proofs.SoonLevels.{read_agree, soon_by_driver, soon_low}
 
 -- a latch has 0

@@ -4,7 +4,7 @@ ghost use Rattle.std.specs.List.{All};
 ghost use Rattle.vw_net.specs.Lists.{greatest};
 ghost use Rattle.vw_plan.specs.Needs.{needed_pairs};
 ghost use Rattle.vw_bound.specs.Given.{design_in};
-ghost use Rattle.vw_bound.specs.Steps.Tables.{AreLow};
+ghost use Rattle.vw_bound.specs.Tables.{AreLow};
 ghost use Rattle.vw_bound.specs.Times.{cell_due_by, cells_due_by, due_by, there_by};
 
 use crate::placed::Placed;

@@ -9,5 +9,9 @@ mod rooms;
 mod table;
 mod times;
 
+pub use depth::due;
 pub use laws::{depths_bound_periods, pairs_fit_in_periods};
 pub use periods::bound;
+pub use placed::Placed;
+pub use table::soon_table;
+pub use times::{home, read, there};

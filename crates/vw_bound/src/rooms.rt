@@ -5,7 +5,7 @@ ghost use Rattle.vw_plan.specs.Needs.{needed_pairs};
 ghost use Rattle.vw_bound.specs.Given.{design_in};
 ghost use Rattle.vw_bound.specs.Pins.{pins_into};
 ghost use Rattle.vw_bound.specs.Steps.Rooms.{IsLeastFit, IsLeastPeriodAt, IsLeastRoom, times_at};
-ghost use Rattle.vw_bound.specs.Steps.Tables.{AreLow, IsSoonTable};
+ghost use Rattle.vw_bound.specs.Tables.{AreLow, IsSoonTable};
 ghost use Rattle.vw_plan.specs.declared.board.Board.{Board};
 
 use crate::placed::Placed;

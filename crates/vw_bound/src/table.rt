@@ -1,7 +1,7 @@
 //! The least microcycle in which each net can have its value.
 ghost use Rattle.std.specs.Prelude.{◌≡◌, ◌<◌, length, IfOk};
 ghost use Rattle.vw_bound.specs.Given.{design_in};
-ghost use Rattle.vw_bound.specs.Steps.Tables.{AreLow, IsSoonTable, cell_by};
+ghost use Rattle.vw_bound.specs.Tables.{AreLow, IsSoonTable, cell_by};
 
 use crate::placed::Placed;
 use crate::times::last_read;

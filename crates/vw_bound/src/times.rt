@@ -3,7 +3,7 @@ ghost use Rattle.std.specs.Prelude.{◌≡◌, ◌≤◌, ◌<◌, ◌^◌, map,
 ghost use Rattle.vw_net.specs.Lists.{greatest};
 ghost use Rattle.vw_bound.specs.Given.{design_in};
 ghost use Rattle.vw_bound.specs.PlacedDesigns.{home_in};
-ghost use Rattle.vw_bound.specs.Steps.Tables.{AreLow};
+ghost use Rattle.vw_bound.specs.Tables.{AreLow};
 ghost use Rattle.vw_bound.specs.Times.{read_by, settling, there_by};
 
 use crate::placed::Placed;

@@ -2,7 +2,7 @@
 use Rattle.std.proofs.Common.{◌≡◌, ◌+◌, ℕ, true, length, take, slice_index}
 use Rattle.vw_net.specs.Order.{is_ready}
 use Rattle.vw_bound.specs.Given.{design_in}
-use Rattle.vw_bound.specs.Steps.Tables.{AreLow}
+use Rattle.vw_bound.specs.Tables.{AreLow}
 use Rattle.vw_bound.specs.Times.{soon}
 use Rattle.vw_bound.proofs.table.soon_table.Given as goal
 
