@@ -13,7 +13,7 @@ use Rattle.vw_plan.specs.Distance.{IsDistance, distance}
 use Rattle.vw_plan.proofs.FewLinks.{few_links_on}
 use Rattle.vw_plan.proofs.Shortest.{distance_is_least}
 use Rattle.vw_plan.proofs.Walking.{Found, found_link}
-use Rattle.vw_bound.specs.Pins.{pins_into}
+use Rattle.vw_bound.specs.Pins.{pins_into, pins_of}
 
 -- a link that leads from a node to one leads there
 entered : (links : List Link) (from to : ℕ) → has_link links from to ≡ true → list_any (λ link. link.to == to) links ≡ true
@@ -49,11 +49,11 @@ module _ (board : Board) where
     by : IsDistance board.links 0 (suc node) (distance board 0 (suc node)) → list_any (λ link. link.to == suc node) board.links ≡ true
     by shortest = walk_enters board.links 0 shortest.nodes (suc node) shortest.walk (λ same. omega arith)
 
-  -- and no node has many
-  pub few_pins : (node : ℕ) → pins_into board.links node ≤ 69696
-  few_pins node =
-      let narrow : All (λ link. cond (link.to == node) link.width 0 ≤ 64) board.links = λ place default within.
+  -- and links have few in all
+  pub few_over : (over : Link → Bool) → pins_of board.links over ≤ 69696
+  few_over over =
+      let narrow : All (λ link. cond (over link) link.width 0 ≤ 64) board.links = λ place default within.
       let link : Link = get_or board.links place default in
       let wide : (1 ≤ link.width) × (link.width ≤ 64) = board.linked.separate.wide place default within in
-      elim (link.to == node) as (λ is. cond is link.width 0 ≤ 64) [ true ↦ wide.1 | false ↦ omega arith ] in
-      omega (arith, sum_by-le (λ (link : Link). cond (link.to == node) link.width 0) 64 board.links narrow, few_links_on board)
+      elim (over link) as (λ is. cond is link.width 0 ≤ 64) [ true ↦ wide.1 | false ↦ omega arith ] in
+      omega (arith, sum_by-le (λ (link : Link). cond (over link) link.width 0) 64 board.links narrow, few_links_on board)

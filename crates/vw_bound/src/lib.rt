@@ -14,4 +14,4 @@ pub use laws::{depths_bound_periods, pairs_fit_in_periods};
 pub use periods::bound;
 pub use placed::Placed;
 pub use table::soon_table;
-pub use times::{home, read, there};
+pub use times::{home, last_read, read, there};
