@@ -1,5 +1,5 @@
 -- The times of inlets, and the class at a place.
-use Rattle.std.proofs.Common.{◌≡◌, ◌<◌, ◌≤◌, ℕ, List, length, map, get_or, slice_index, ap, sym, subst, ◌∙◌, All}
+use Rattle.std.proofs.Common.{◌≡◌, ◌<◌, ℕ, List, length, map, get_or, slice_index, ap, sym, subst, ◌∙◌, All}
 use Rattle.std.proofs.lemmas.List.{get_or-map, length-map}
 use Rattle.vw_bound.specs.PlacedDesigns.{PlacedDesign}
 use Rattle.vw_bound.specs.Times.{there_by}

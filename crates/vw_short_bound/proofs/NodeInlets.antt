@@ -1,12 +1,11 @@
 -- The inlets of nodes, as they are listed.
-use Rattle.std.proofs.Common.{◌≡◌, ◌<◌, ◌≤◌, ◌+◌, ◌++◌, ◌&&◌, ◌==◌, ℕ, zero, suc, Bool, true, false, List, [], ◌∷◌, length, map, slice_get, slice_index, Some, ap, refl, sym, subst, ◌∙◌, ◌⊎◌, inl, inr, ⊎_elim, length-append, All, arith}
+use Rattle.std.proofs.Common.{◌≡◌, ◌≤◌, ◌+◌, ◌++◌, ◌&&◌, ◌==◌, ℕ, zero, suc, Bool, true, false, List, [], ◌∷◌, length, slice_get, Some, ap, refl, sym, subst, ◌∙◌, ◌⊎◌, inl, inr, ⊎_elim, length-append, All, arith}
 use Rattle.std.specs.List.{count_by, filter}
 use Rattle.std.specs.List.Sorted.{IsPermutation}
 use Rattle.std.proofs.lemmas.List.Sorted.{sum_by-IsPermutation}
 use Rattle.std.proofs.lemmas.Option.{same_Some}
 use Rattle.vw_net.specs.Steps.Bits.{one_if}
 use Rattle.vw_net.proofs.CountsOverLists.{count_filter, count_le, count_map, count_sum}
-use Rattle.vw_net.proofs.Lists.{one_if-le}
 use Rattle.vw_plan.specs.declared.need.Need.{Need}
 use Rattle.vw_plan.specs.Needs.{is_pair, needed_pairs}
 use Rattle.vw_bound.specs.PlacedDesigns.{PlacedDesign, flat_of}

@@ -1,23 +1,20 @@
 -- What holds in each sound plan with shortest wires, step by step.
-use Rattle.std.proofs.Common.{◌≡◌, ◌≢◌, ◌<◌, ◌≤◌, ◌+◌, ◌-◌, ◌&&◌, ◌⊎◌, ℕ, zero, suc, Bool, true, false, List, [], ◌∷◌, length, map, max, get_or, slice_get, slice_index, nat_lt, eqb, cond, ap, refl, sym, subst, ◌∙◌, Some, ⊎_elim, eq-eqb, ne_eqb, le-ltb, All, arith}
+use Rattle.std.proofs.Common.{◌≡◌, ◌≢◌, ◌<◌, ◌≤◌, ◌+◌, ◌-◌, ◌⊎◌, ℕ, zero, suc, Bool, true, false, List, [], ◌∷◌, length, map, max, get_or, slice_index, nat_lt, cond, ap, sym, subst, ◌∙◌, Some, ⊎_elim, ne_eqb, le-ltb, arith}
 use Rattle.std.specs.Prelude.{slice_index_or}
 use Rattle.std.specs.List.{count_by}
-use Rattle.std.proofs.lemmas.Bool.{cases_Bool}
 use Rattle.std.proofs.lemmas.List.{get_or-map}
 use Rattle.std.proofs.lemmas.Option.{slice_get-get_or}
 use Rattle.vw_net.specs.Lists.{greatest}
 use Rattle.vw_net.specs.Steps.Bits.{one_if}
 use Rattle.vw_net.proofs.CountsOverLists.{count_cons, some_counted}
 use Rattle.vw_plan.specs.declared.need.Need.{Need}
-use Rattle.vw_plan.specs.Good.{AreShort}
 use Rattle.vw_plan.specs.Lead.{brought_at, lead}
 use Rattle.vw_plan.specs.Needs.{is_pair, needed_pairs}
-use Rattle.vw_plan.specs.Nets.{is_needed, node_of}
-use Rattle.vw_plan.specs.PlannedBoard.{PlannedBoard, home}
-use Rattle.vw_plan.specs.Sound.{IsSound}
+use Rattle.vw_plan.specs.Nets.{is_needed}
+use Rattle.vw_plan.specs.PlannedBoard.{home}
 use Rattle.vw_plan.proofs.NeededPairs.{any-needed_pairs}
 use Rattle.vw_delays.proofs.LevelDelays.{least_ways}
-use Rattle.vw_bound.specs.PlacedDesigns.{PlacedDesign, flat_of, home_in, placed_by}
+use Rattle.vw_bound.specs.PlacedDesigns.{PlacedDesign, flat_of, home_in}
 use Rattle.vw_bound.proofs.BroughtWires.{pair_in_period}
 use Rattle.vw_bound.proofs.ListedNeeds.{own_pair}
 use Rattle.vw_bound.proofs.SoonLeads.{lead_away}

@@ -1,21 +1,20 @@
 -- The pins of last links have room for all inlets that a net waits for.
-use Rattle.std.proofs.Common.{◌≡◌, ◌<◌, ◌≤◌, ◌+◌, ◌-◌, ◌*◌, ◌&&◌, ℕ, zero, suc, Bool, true, false, List, [], ◌∷◌, length, map, drop, get_or, slice_get, slice_index, eqb, cond, ap, refl, sym, subst, ◌∙◌, Some, ⊎_elim, eqb-true, eq-eqb, true≢false, arith}
+use Rattle.std.proofs.Common.{◌≡◌, ◌<◌, ◌≤◌, ◌+◌, ◌-◌, ◌*◌, ℕ, zero, suc, Bool, true, List, [], ◌∷◌, length, map, drop, slice_get, slice_index, eqb, ap, refl, sym, subst, ◌∙◌, Some, ⊎_elim, eqb-true, true≢false, arith}
 use Rattle.std.specs.List.{AllByRecursion, count_by, list_any}
 use Rattle.std.proofs.lemmas.Bool.{and_parts, or_cases, or_left, or_right}
 use Rattle.std.proofs.lemmas.List.{drop_more, length-map}
 use Rattle.vw_net.specs.Steps.Bits.{one_if}
 use Rattle.vw_net.proofs.CountsOverLists.{count_cons, count_map}
-use Rattle.vw_plan.specs.declared.link.Link.{Link}
 use Rattle.vw_plan.specs.declared.need.Need.{Need}
 use Rattle.vw_plan.specs.declared.wire.Wire.{Wire}
 use Rattle.vw_plan.specs.Good.{AreShort}
-use Rattle.vw_plan.specs.Lead.{after_last, brought_at, lead, usable}
+use Rattle.vw_plan.specs.Lead.{after_last, brought_at, lead}
 use Rattle.vw_plan.specs.Needs.{is_pair, needed_pairs}
 use Rattle.vw_plan.specs.PlannedBoard.{PlannedBoard, home}
 use Rattle.vw_plan.specs.Sound.{IsSound}
 use Rattle.vw_delays.specs.Delays.{least_delay}
 use Rattle.vw_delays.proofs.LevelDelays.{least_ways}
-use Rattle.vw_bound.specs.PlacedDesigns.{PlacedDesign, flat_of, home_in, placed_by}
+use Rattle.vw_bound.specs.PlacedDesigns.{PlacedDesign, placed_by}
 use Rattle.vw_bound.specs.Pins.{pins_of}
 use Rattle.vw_bound.specs.Times.{there_by}
 use Rattle.vw_bound.proofs.BroughtWires.{wire_late}

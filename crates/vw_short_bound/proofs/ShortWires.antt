@@ -1,11 +1,9 @@
 -- The last links of wires that are as short as they can be.
-use Rattle.std.proofs.Common.{◌≡◌, ◌<◌, ◌≤◌, ◌+◌, ◌-◌, ◌++◌, ◌&&◌, ◌==◌, ℕ, zero, suc, Bool, true, false, List, [], ◌∷◌, length, slice_get, slice_index, nat_lt, eqb, cond, ap, refl, sym, subst, ◌∙◌, Some, ⊎_elim, eq-eqb, eqb-true, true≢false, length-append, All, arith}
-use Rattle.std.specs.List.{count_by, find, list_any}
+use Rattle.std.proofs.Common.{◌≡◌, ◌≤◌, ◌+◌, ◌-◌, ◌++◌, ◌&&◌, ◌==◌, ℕ, zero, suc, Bool, true, false, List, [], ◌∷◌, length, slice_get, slice_index, nat_lt, eqb, cond, ap, refl, sym, subst, ◌∙◌, Some, ⊎_elim, eq-eqb, eqb-true, length-append, All, arith}
+use Rattle.std.specs.List.{count_by, find}
 use Rattle.std.specs.Option.{option_map_or}
-use Rattle.std.proofs.lemmas.Bool.{and_from, and_parts, cases_Bool, cases_lt}
-use Rattle.std.proofs.lemmas.List.{get_or_past}
+use Rattle.std.proofs.lemmas.Bool.{and_from, and_parts, cases_Bool}
 use Rattle.std.proofs.lemmas.List.Elements.{All-head, All-tail}
-use Rattle.std.proofs.lemmas.List.Folds.{list_any_at}
 use Rattle.vw_net.specs.Steps.Bits.{one_if}
 use Rattle.vw_net.proofs.CountsOverLists.{count_cons}
 use Rattle.vw_net.proofs.ListedLists.{any_stands}
@@ -15,7 +13,7 @@ use Rattle.vw_plan.specs.declared.wire.Hop.{Hop}
 use Rattle.vw_plan.specs.declared.wire.Wire.{Wire}
 use Rattle.vw_plan.specs.Distance.{IsDistance, distance}
 use Rattle.vw_plan.specs.Good.{AreShort}
-use Rattle.vw_plan.specs.Lead.{after_last, brings, brought_at, carries}
+use Rattle.vw_plan.specs.Lead.{after_last, brings, brought_at}
 use Rattle.vw_plan.specs.Nets.{is_needed}
 use Rattle.vw_plan.specs.PlannedBoard.{PlannedBoard, home}
 use Rattle.vw_plan.specs.Sound.{IsRouted, IsSound, has_pin, leads_to}
@@ -23,7 +21,7 @@ use Rattle.vw_plan.specs.Walks.{IsWalk, has_link}
 use Rattle.vw_plan.proofs.ChipNumbers.{low_chips}
 use Rattle.vw_plan.proofs.HopLinks.{HopLink, hop_link}
 use Rattle.vw_plan.proofs.HopsOfWires.{at_place}
-use Rattle.vw_plan.proofs.NeededWires.{own_pair, wire_needed}
+use Rattle.vw_plan.proofs.NeededWires.{own_pair}
 use Rattle.vw_plan.proofs.Shortest.{distance_is_least}
 use Rattle.vw_bound.proofs.Counting.{any_counted}
 use Rattle.vw_bound.proofs.PressedPairs.{LastLink}

@@ -1,9 +1,9 @@
 -- One inlet more that presses.
-use Rattle.std.proofs.Common.{◌≡◌, ◌<◌, ◌≤◌, ◌+◌, ◌-◌, ◌*◌, ◌/◌, ℕ, zero, suc, true, List, [], ◌∷◌, length, max, min, slice_index, refl, sym, ◌∙◌, ap, subst, ⊎_elim, arith}
+use Rattle.std.proofs.Common.{◌≡◌, ◌<◌, ◌≤◌, ◌+◌, ◌-◌, ◌*◌, ◌/◌, ℕ, suc, true, List, [], ◌∷◌, length, max, min, slice_index, refl, subst, ⊎_elim, arith}
 use Rattle.std.specs.List.{AllByRecursion}
 use Rattle.std.proofs.lemmas.Bool.{cases_lt}
 use Rattle.std.proofs.Math.Nat.{mul-div-le, mul-le-mul_left}
-use Rattle.vw_short_bound.specs.Steps.Pressed.{Climbs, HaveSlots, IsChosen, IsPressSoFar}
+use Rattle.vw_short_bound.specs.Steps.Pressed.{Climbs, IsChosen, IsPressSoFar}
 use Rattle.vw_short_bound.specs.Steps.Rows.{has}
 
 -- a number of places that pins have room for ends no sooner than they fill whole microcycles

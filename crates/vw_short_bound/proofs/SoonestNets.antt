@@ -1,22 +1,18 @@
 -- Tables of the least microcycles of nets, gate by gate, in each sound plan with shortest wires.
-use Rattle.std.proofs.Common.{◌≡◌, ◌≢◌, ◌<◌, ◌≤◌, ◌+◌, ◌-◌, ◌%◌, ◌^◌, ◌==◌, ℕ, zero, suc, Bool, true, false, List, [], ◌∷◌, ◌++◌, length, map, max, min, replicate, set, get_or, slice_get, slice_index, nat_lt, eqb, cond, ap, refl, sym, subst, ◌∙◌, Some, None, Option, ⊎_elim, le-ltb, length-append, true≢false, All, arith}
+use Rattle.std.proofs.Common.{◌≡◌, ◌<◌, ◌≤◌, ◌+◌, ◌-◌, ◌%◌, ◌^◌, ◌==◌, ℕ, zero, suc, Bool, true, false, List, [], ◌∷◌, ◌++◌, length, map, max, replicate, set, slice_get, slice_index, nat_lt, cond, ap, refl, sym, subst, ◌∙◌, None, ⊎_elim, le-ltb, length-append, true≢false, All, arith}
 use Rattle.std.specs.Prelude.{slice_index_or}
-use Rattle.std.specs.Int.{bit_at}
 use Rattle.std.proofs.lemmas.Bool.{cases_eq, cases_lt}
 use Rattle.std.proofs.lemmas.Grind.{get_or-set_at}
 use Rattle.std.proofs.lemmas.List.{get_or_past, get_or-replicate, get_or-set_other, length-replicate, length-set}
 use Rattle.std.proofs.lemmas.List.Elements.{All-replicate, All-set}
 use Rattle.std.proofs.lemmas.Nat.Bits.{bit_at-zero}
 use Rattle.vw_net.specs.Lists.{greatest}
-use Rattle.vw_plan.specs.Good.{AreShort}
 use Rattle.vw_plan.specs.Lead.{brought_at, lead}
 use Rattle.vw_plan.specs.Nets.{driving_cell, greatest_read}
 use Rattle.vw_plan.specs.PlannedBoard.{PlannedBoard, home, planned_board}
-use Rattle.vw_plan.specs.declared.plan.Plan.{Plan}
 use Rattle.vw_plan.specs.Sound.{IsSound}
 use Rattle.vw_delays.proofs.LevelDelays.{least_ways}
 use Rattle.vw_bound.specs.PlacedDesigns.{PlacedDesign, flat_of, placed_by, placed_design}
-use Rattle.vw_bound.specs.Tables.{AreLow}
 use Rattle.vw_bound.specs.Times.{due_by, read_by}
 use Rattle.vw_bound.proofs.DuePeriods.{due_in_period}
 use Rattle.vw_bound.proofs.SoonLeads.{driver_late, lead_home}

@@ -8,7 +8,9 @@ ghost use Rattle.vw_bound.specs.Pins.{PairsFit};
 ghost use Rattle.vw_bound.specs.PlacedDesigns.{placed_design};
 ghost use Rattle.vw_bound.specs.Times.{depth_bound};
 ghost use Rattle.vw_short_bound.specs.Shortest.{IsShortBound};
+ghost use Rattle.vw_bound.specs.Tables.{AreLow};
 ghost use Rattle.vw_short_bound.specs.Steps.Inlets.{IsBelowPeriods};
+ghost use Rattle.vw_short_bound.specs.Steps.Plans.{AreSoonest};
 
 use crate::pressing::pressed_nodes;
 use crate::soonest::soonest;
@@ -51,7 +53,28 @@ fn wanted_of(alloc: Global, placed: &Placed, needs: &[Need]) -> Result<Vec<bool>
     Ok(wanted)
 }
 
-/// The last of what the pins and the depth ask for, by nets that wait for pins.
+/// The least microcycle in which each net can have its value, where inlets are counted by the times of a table.
+fn soonest_by(
+    alloc: Global,
+    placed: &Placed,
+    distances: &Distances,
+    table: &[u64],
+    needs: &[Need],
+    wanted: &[bool],
+) -> Result<Vec<u64>, AllocError>
+    requires distances { distances.now ≡ placed.now.board.now }
+    requires low { AreLow table.now }
+    requires needs { needs.now
+        ≡ needed_pairs placed.now.ordered.now.flat placed.now.chip_of.now }
+    ensures { IfOk result (λ soon. AreSoonest (design_in placed.now) soon.items) }
+{
+    let tables = tables_of(alloc, placed, distances, table, needs)?;
+    let soon = soonest(alloc, placed, &tables, wanted, MOST_LOOKS)?;
+    Ok(soon)
+}
+
+/// The last of what the pins and the depth ask for, by nets that wait for pins. The first time round, inlets are counted by
+/// their depths, and then by what was found, since the order in which they are counted matters.
 fn pressed_bound(
     alloc: Global,
     placed: &Placed,
@@ -63,9 +86,10 @@ fn pressed_bound(
         ≡ needed_pairs placed.now.ordered.now.flat placed.now.chip_of.now }
     ensures { IfOk result (IsBelowPeriods (design_in placed.now)) }
 {
-    let table = soon_table(alloc, placed)?;
-    let tables = tables_of(alloc, placed, distances, &table, needs)?;
     let wanted = wanted_of(alloc, placed, needs)?;
+    let by_depth = soon_table(alloc, placed)?;
+    let first = soonest_by(alloc, placed, distances, &by_depth, needs, &wanted)?;
+    let tables = tables_of(alloc, placed, distances, &first, needs)?;
     let soon = soonest(alloc, placed, &tables, &wanted, MOST_LOOKS)?;
     let last = due(placed, &soon, needs);
     Ok(last.max(pressed_nodes(alloc, placed, &soon, &tables)?))
@@ -76,7 +100,7 @@ fn pressed_bound(
 /// nodes has its value no sooner than the links over which these can come last have had room for them.
 ///
 /// It takes memory for a bit for each gate and each net that comes to the gate's node, and goes over each gate and each of
-/// its inputs once. It counts such nets some 30 million times at most, and for further gates takes their depth alone.
+/// its inputs once. It counts such nets some 60 million times at most, and for further gates takes their depth alone.
 pub fn short_bound(
     alloc: Global,
     ordered: &Ordered,

@@ -1,6 +1,6 @@
 -- The inlets of nodes, and the rows of what nets rest on.
-use Rattle.std.specs.Prelude.{◌≡◌, ◌≤◌, ◌<◌, ◌+◌, ◌^◌, ◌==◌, ℕ, List, [], length, map, slice_get, slice_index, slice_index_or, Some, IsTrue}
-use Rattle.std.specs.List.{All, filter}
+use Rattle.std.specs.Prelude.{◌≡◌, ◌≤◌, ◌<◌, ◌+◌, ◌^◌, ℕ, List, [], length, map, slice_get, slice_index, slice_index_or, Some, IsTrue}
+use Rattle.std.specs.List.{All}
 use Rattle.vw_net.specs.Lists.{greatest}
 use Rattle.vw_plan.specs.declared.link.Link.{Link}
 use Rattle.vw_plan.specs.declared.need.Need.{Need}

@@ -1,5 +1,5 @@
 -- What holds in each sound plan with shortest wires.
-use Rattle.std.specs.Prelude.{◌≡◌, ◌≤◌, ◌<◌, ℕ, Bool, List, length, map, count_by, slice_index, slice_index_or, IsTrue}
+use Rattle.std.specs.Prelude.{◌≡◌, ◌≤◌, ◌<◌, ℕ, List, length, map, count_by, slice_index, IsTrue}
 use Rattle.vw_plan.specs.declared.need.Need.{Need}
 use Rattle.vw_plan.specs.Good.{AreShort}
 use Rattle.vw_plan.specs.Lead.{brought_at, lead}

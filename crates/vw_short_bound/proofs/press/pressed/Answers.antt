@@ -1,4 +1,4 @@
-use Rattle.std.proofs.Common.{◌≡◌, ◌≤◌, ◌<◌, ◌+◌, ◌-◌, ◌/◌, ◌^◌, ◌&&◌, ◌∙◌, ℕ, suc, true, length, max, min, slice_index, sym, subst, refl, rules, arith}
+use Rattle.std.proofs.Common.{◌≡◌, ◌<◌, ◌+◌, ◌-◌, ◌/◌, ◌∙◌, ℕ, suc, length, max, min, slice_index, sym, subst, refl, rules, arith}
 use Rattle.std.proofs.lemmas.Bool.{and_parts}
 use Rattle.vw_short_bound.specs.Steps.Pressed.{IsPressSoFar}
 use Rattle.vw_short_bound.specs.Steps.Rows.{has}

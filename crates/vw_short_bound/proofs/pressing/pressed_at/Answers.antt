@@ -1,4 +1,4 @@
-use Rattle.std.proofs.Common.{◌≡◌, ◌∙◌, ap, max, slice_index, rules}
+use Rattle.std.proofs.Common.{◌≡◌, max, slice_index, rules}
 use Rattle.vw_bound.specs.Given.{design_in}
 use Rattle.vw_short_bound.specs.Steps.Inlets.{IsClassOf}
 use Rattle.vw_short_bound.proofs.InletTimes.{class_at, times_at, times_long}

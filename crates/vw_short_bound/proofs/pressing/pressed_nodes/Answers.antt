@@ -1,4 +1,4 @@
-use Rattle.std.proofs.Common.{◌≡◌, ◌≤◌, ◌+◌, max, rules, arith}
+use Rattle.std.proofs.Common.{◌≡◌, ◌≤◌, max, rules, arith}
 use Rattle.vw_bound.specs.Given.{design_in}
 use Rattle.vw_short_bound.proofs.PlanFacts.{greater_below, presses_periods, table_of}
 use Rattle.vw_short_bound.proofs.pressing.pressed_nodes.Goals as goal

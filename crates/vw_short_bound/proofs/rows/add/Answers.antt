@@ -1,4 +1,3 @@
-use Rattle.std.proofs.Common.{◌<◌}
 use Rattle.vw_short_bound.proofs.BitRows.{add_has}
 use Rattle.vw_short_bound.proofs.rows.add.Goals as goal
 

@@ -1,4 +1,4 @@
-use Rattle.std.proofs.Common.{◌≡◌, ◌∙◌, [], ap, arith}
+use Rattle.std.proofs.Common.{◌∙◌}
 use Rattle.vw_short_bound.proofs.SoonestNets.{empty_next}
 use Rattle.vw_short_bound.proofs.soonest.empty_rows.Goals as goal
 

@@ -1,8 +1,6 @@
-use Rattle.std.proofs.Common.{◌≡◌, ◌<◌, ◌≤◌, ◌+◌, ◌∙◌, ℕ, List, length, get_or, set, slice_index, ap, ap₂, sym, subst, arith}
-use Rattle.vw_net.specs.declared.flat.Flat.{Flat}
+use Rattle.std.proofs.Common.{◌≡◌, ◌<◌, ◌+◌, ℕ, List, length, get_or, set, slice_index, ap, sym, subst, arith}
 use Rattle.vw_net.proofs.ReadyNets.{order_within}
 use Rattle.vw_bound.specs.Given.{design_in}
-use Rattle.vw_short_bound.specs.Steps.Inlets.{IsWorkedOut}
 use Rattle.vw_short_bound.proofs.SoonestNets.{IsSoonSoFar, soon_next}
 use Rattle.vw_short_bound.proofs.soonest.soonest.Goals as goal
 

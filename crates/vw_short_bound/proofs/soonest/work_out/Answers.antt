@@ -1,4 +1,4 @@
-use Rattle.std.proofs.Common.{◌≡◌, ◌<◌, ◌≤◌, ◌∙◌, ℕ, List, Some, ap, length, map, slice_get, slice_index, refl, subst, sym, ◌+◌, arith}
+use Rattle.std.proofs.Common.{◌<◌, ◌≤◌, ◌∙◌, ℕ, List, Some, ap, length, map, slice_index, refl, subst, sym, ◌+◌, arith}
 use Rattle.std.proofs.lemmas.Option.{slice_get_read}
 use Rattle.vw_net.specs.Lists.{greatest}
 use Rattle.vw_net.specs.declared.cell.Cell.{Cell}

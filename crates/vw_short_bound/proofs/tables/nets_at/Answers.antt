@@ -1,8 +1,7 @@
-use Rattle.std.proofs.Common.{◌≡◌, ◌==◌, ◌∙◌, List, ap}
+use Rattle.std.proofs.Common.{◌==◌, ◌∙◌, ap}
 use Rattle.std.specs.List.{filter}
 use Rattle.vw_plan.specs.declared.need.Need.{Need}
 use Rattle.vw_bound.specs.Given.{design_in}
-use Rattle.vw_short_bound.specs.declared.inlets.Inlet.{Inlet}
 use Rattle.vw_short_bound.specs.Steps.Inlets.{inlet_nets}
 use Rattle.vw_short_bound.proofs.NodeInlets.{are_inlets}
 use Rattle.vw_short_bound.proofs.tables.nets_at.Goals as goal

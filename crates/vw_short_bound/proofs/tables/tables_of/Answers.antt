@@ -1,4 +1,3 @@
-use Rattle.std.proofs.Common.{◌≡◌}
 use Rattle.vw_bound.specs.Given.{design_in}
 use Rattle.vw_short_bound.proofs.NodeInlets.{tables_next}
 use Rattle.vw_short_bound.proofs.tables.tables_of.Goals as goal

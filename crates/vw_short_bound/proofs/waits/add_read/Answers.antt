@@ -1,4 +1,4 @@
-use Rattle.std.proofs.Common.{◌≡◌, ◌≤◌, ◌∙◌, ◌-◌, ℕ, List, inl, inr, [], true, ap, sym, subst, ⊎_elim}
+use Rattle.std.proofs.Common.{◌≡◌, ◌≤◌, ◌∙◌, ℕ, inl, inr, ap, sym, subst, ⊎_elim}
 use Rattle.vw_net.specs.declared.flat.Flat.{Flat}
 use Rattle.vw_bound.specs.Given.{design_in}
 use Rattle.vw_short_bound.proofs.PlanFacts.{brought_waits, own_waits}

@@ -1,4 +1,4 @@
-use Rattle.std.proofs.Common.{◌≡◌, ◌⊎◌, ◌∙◌, ℕ, List, true, ap, length, refl, slice_index, sym, subst}
+use Rattle.std.proofs.Common.{◌∙◌, ℕ, List, ap, length, refl, slice_index, sym, subst}
 use Rattle.vw_short_bound.proofs.BitRows.{written_back}
 use Rattle.vw_bound.specs.Given.{design_in}
 use Rattle.vw_short_bound.specs.Steps.Inlets.{RowWaits}
