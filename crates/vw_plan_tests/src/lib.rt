@@ -7,6 +7,8 @@ mod board_text;
 #[cfg(test)]
 mod boards;
 #[cfg(test)]
+mod bound;
+#[cfg(test)]
 mod check;
 #[cfg(test)]
 mod hint;
