@@ -1,7 +1,9 @@
 -- Groups after a round, of each of which it is known what it did.
-use Rattle.std.proofs.Common.{◌≡◌, ◌<◌, ◌∷◌, ℕ, suc, List, [], length, map, get_or, set, ap₂, refl, sym, subst, ⊎_elim, arith}
+use Rattle.std.proofs.Common.{◌≡◌, ◌<◌, ◌∷◌, ℕ, suc, List, [], length, map, get_or, set, ap, ap₂, refl, sym, subst, ◌∙◌, ⊎_elim, arith}
 use Rattle.std.proofs.Math.Seq.{map-set_same}
-use Rattle.std.proofs.lemmas.Option.{get_or_from_slice_get, slice_get_within}
+use Rattle.std.proofs.Math.ListN.{get_or-map}
+use Rattle.std.proofs.lemmas.List.{length-map}
+use Rattle.std.proofs.lemmas.Option.{get_or_from_slice_get, slice_get-get_or, slice_get_within}
 use Rattle.vw_crew.specs.Groups.{AllAtWork, AllStay, AreAtWork, SeenGroup, Stays, own_marks, share_of}
 use Rattle.vw_crew.proofs.Members.{got_set}
 
@@ -23,6 +25,29 @@ module _ (old new : List SeenGroup) (long : length new ≡ length old) (each : (
     shares = map_each (λ (group : SeenGroup). map share_of group.nodes) old new long (λ number default below. (each number default below).1.shares);
     marks = map_each (λ (group : SeenGroup). map own_marks group.ends) old new long (λ number default below. (each number default below).1.marks);
   }
+
+-- groups that have gone on are as many, and each of them has gone on
+module _ (old new : List SeenGroup) (stay : AllStay old new) where
+  stays_long : length new ≡ length old
+  stays_long = sym (length-map new (λ (group : SeenGroup). group.number)) ∙ ap (λ (list : List ℕ). length list) stay.numbers ∙ length-map old (λ (group : SeenGroup). group.number)
+
+  part_at : {X : Type 0} (part : SeenGroup → X) → map part new ≡ map part old → (number : ℕ) (default : SeenGroup) → part (get_or new number default) ≡ part (get_or old number default)
+  part_at part same number default = sym (get_or-map part new number default) ∙ ap (λ (list : List _). get_or list number (part default)) same ∙ get_or-map part old number default
+
+  stays_at : (number : ℕ) (default : SeenGroup) → Stays (get_or old number default) (get_or new number default)
+  stays_at number default = record {
+    number = part_at (λ (group : SeenGroup). group.number) stay.numbers number default;
+    shares = part_at (λ (group : SeenGroup). map share_of group.nodes) stay.shares number default;
+    marks = part_at (λ (group : SeenGroup). map own_marks group.ends) stay.marks number default;
+  }
+
+-- so has a group in a part of the groups
+pub in_part : (part left : List SeenGroup) → AllAtWork left × AllStay part left → (offset : ℕ) → offset < length part
+    → (default old new : SeenGroup) → get_or part offset default ≡ old → get_or left offset default ≡ new → AreAtWork new × Stays old new
+in_part part left kept offset inside default old new old_is new_is = (
+  subst AreAtWork new_is (kept.0 offset (get_or left offset default) (slice_get-get_or left offset default (omega (arith, inside, stays_long part left kept.1)))),
+  subst (λ (one : SeenGroup). Stays one new) old_is (subst (λ (one : SeenGroup). Stays (get_or part offset default) one) new_is (stays_at part left kept.1 offset default)),
+)
 
 -- one group has gone on
 module _ (groups : List SeenGroup) (number : ℕ) (new : SeenGroup) where

@@ -1,6 +1,7 @@
 pub mod Places
 pub mod OwnEnds
 pub mod Goings
+pub mod JoinedParts
 pub mod Members
 pub mod Dealt
 pub mod Carried

@@ -8,14 +8,10 @@ ghost use Rattle.vw_crew.specs.Groups.{AreAtWork, IsFirstGroup, Stays};
 ghost use Rattle.vw_crew.specs.Lending.{LendsEnds};
 
 use crate::ends::NodeEnds;
-use crate::patience::{Patience, Round};
 use std::alloc::{AllocError, Global};
 use std::marker::Model;
 use vw_node::Node;
 use vw_prog::{Job, Programs, PutEnd, TakeEnd};
-
-/// How often each node of a group that isn't done is refused in one burst.
-const REFUSALS: u32 = 256;
 
 /// Some nodes of a crew, each with the ends of its links. Of so many groups the one with a number has the nodes whose numbers
 /// have that rest, in order: the node at a place has the number `place * groups + number`.
@@ -149,36 +145,5 @@ impl<'a, T: PutEnd, U: TakeEnd> Group<'a, T, U> {
             made = made.wrapping_add(self.go(place));
         }
         made
-    }
-
-    /// Turns until each of its nodes is done or was refused so often. Says how many actions they made.
-    fn turns(&mut self, clocks: u64, round: &Round) -> u64
-        requires { AreAtWork self.old }
-        ensures work { AreAtWork self.new }
-        ensures stays { Stays self.old self.new }
-    {
-        let mut patience = Patience::new();
-        let mut made = 0u64;
-        for _ in 0..REFUSALS {
-            patience.wait(round);
-            let now = self.turn();
-            patience.count(now > 0);
-            made = made.wrapping_add(now);
-            if self.is_done(clocks) {
-                break;
-            }
-        }
-        made
-    }
-
-    /// Goes round its nodes until each of them is done or was refused so often, and waits in between as long as no other group
-    /// has ended its burst. It takes no memory.
-    pub fn burst(&mut self, clocks: u64, round: &Round)
-        requires { AreAtWork self.old }
-        ensures work { AreAtWork self.new }
-        ensures stays { Stays self.old self.new }
-    {
-        let made = self.turns(clocks, round);
-        round.end(made);
     }
 }

@@ -2,12 +2,15 @@
 //! fork and join, with the work dealt out beforehand.
 #![tactic(auto)]
 
+mod bursts;
+mod costs;
 mod crew;
 mod ends;
 mod group;
 mod groups;
 mod laying;
 mod pace;
+mod parts;
 mod patience;
 mod rounds;
 

@@ -1,66 +1,120 @@
-/// A round is worth its threads if its groups make so many actions together. On cores that have nothing else to do, rounds of
-/// large chips make 1.3 to 4 times as many; where others work on the cores they make a tenth.
-const WORTH: u64 = 1 << 16;
+//! How many threads the rounds of a run are worth.
+ghost use Rattle.std.specs.Prelude.{◌<◌};
 
-/// How many actions the calling thread makes alone after the first round that wasn't worth its threads.
-const FIRST_STRETCH: u64 = WORTH * 8;
+use crate::costs::{FIRST_STRETCH, FORK, GOOD_ROUNDS, GRACE, STRETCH_DOUBLINGS, TOP_LEVEL, worth};
+use crate::patience::Round;
 
-/// At most so much is left to a run of what its earlier rounds made beyond their worth.
-const MOST_CREDIT: u64 = WORTH * 16;
+/// How many levels there are.
+const LEVELS: usize = 7;
 
-/// Whether the rounds of a run are worth their threads, by what they came to so far. It lasts over the batches of the run. It
-/// only spares time: no answer rests on it.
+/// How many threads the rounds of a run are worth, by what they came to so far. It lasts over the batches of the run. It only
+/// spares time: no answer rests on it.
 ///
-/// Groups that only hand words to each other wait for each other's threads, and on busy cores each hand-over costs a turn of
-/// the scheduler. So after a round with too few actions the calling thread goes on alone for a stretch, in which all nodes
-/// make their actions one after the other, and then there is a round again. Each stretch is twice as long as the one before,
-/// until rounds are worth their threads again.
+/// Threads that only hand words to each other wait for each other, and on busy cores each hand-over costs a turn of the
+/// scheduler. So the waits of rounds are counted against the actions that they made: where too much was waited, half as many
+/// threads work for a stretch of actions, each on more groups, and at last the calling thread alone. Then more threads are
+/// tried again. Each time that they fail, their next stretch is twice as long.
 #[derive(Drop)]
 pub struct Pace {
-    /// What the last rounds made beyond their worth.
+    /// At most 2 to the power of this many threads work; at 0 the calling thread alone.
+    level: u32,
+    /// How many spins each thread may wait beyond what the rounds of the level are worth.
     credit: u64,
-    /// How many actions the next stretch has.
-    stretch: u64,
-    /// How many actions of this stretch are left.
+    /// How many rounds in a row were worth their threads.
+    good: u32,
+    /// How many actions of the stretch are left.
     left: u64,
+    /// How often the stretch of each level was doubled.
+    failed: [u32; LEVELS],
+}
+
+/// At the level for so many groups each has a thread of its own, as far as there are threads.
+fn top_of(groups: usize) -> u32 {
+    for level in 0..TOP_LEVEL {
+        if groups <= 1usize << level {
+            return level;
+        }
+    }
+    TOP_LEVEL
 }
 
 impl Pace {
     /// Before the first round. It takes no memory.
     pub fn new() -> Self {
         Pace {
-            credit: 0,
-            stretch: FIRST_STRETCH,
+            level: TOP_LEVEL,
+            credit: GRACE,
+            good: 0,
             left: 0,
+            failed: [0; LEVELS],
         }
     }
 
     /// Whether the calling thread goes on alone.
-    pub fn is_alone(&self) -> bool {
-        self.left > 0
+    pub(crate) fn is_alone(&self) -> bool {
+        self.level == 0
     }
 
-    /// Counts a round, in which so many actions were made.
-    pub fn count_round(&mut self, made: u64) {
-        let credit = self.credit.saturating_add(made).min(MOST_CREDIT);
-        if credit < WORTH {
-            self.credit = 0;
-            self.left = self.stretch;
-            self.stretch = self.stretch.saturating_mul(2);
-        } else {
-            self.credit = credit - WORTH;
-            if made >= WORTH {
-                self.stretch = FIRST_STRETCH;
-            }
+    /// How many groups each thread of the next round has, of so many in all.
+    pub(crate) fn groups_of_each(&self, groups: usize) -> usize
+        ensures { 0 < result }
+    {
+        groups.div_ceil(1usize << self.level.min(TOP_LEVEL)).max(1)
+    }
+
+    /// From now on so many threads as the level says work.
+    fn turn_to(&mut self, level: u32) {
+        self.level = level;
+        self.credit = GRACE;
+        self.good = 0;
+    }
+
+    /// Counts a round of so many groups.
+    pub(crate) fn count_round(&mut self, groups: usize, round: &Round) {
+        let level = self.level.min(top_of(groups));
+        let credit = self
+            .credit
+            .saturating_add(worth(round.made(), round.threads()));
+        let cost = (round.waited() / round.threads().max(1)).saturating_add(FORK);
+        if credit < cost {
+            self.fail(level);
+            return;
+        }
+        self.credit = (credit - cost).min(3 * GRACE);
+        self.count_good(level);
+        if level < top_of(groups) {
+            self.use_up(round.made());
+        }
+    }
+
+    /// Fewer threads work than at this level for a stretch.
+    fn fail(&mut self, level: u32) {
+        let failed = &mut self.failed[level.min(TOP_LEVEL) as usize];
+        self.left = FIRST_STRETCH << (*failed).min(STRETCH_DOUBLINGS);
+        *failed = failed.saturating_add(1).min(STRETCH_DOUBLINGS);
+        self.turn_to(level.saturating_sub(1));
+    }
+
+    /// Counts a round at this level that was worth its threads.
+    fn count_good(&mut self, level: u32) {
+        self.good = self.good.saturating_add(1);
+        if self.good >= GOOD_ROUNDS {
+            self.good = 0;
+            let failed = &mut self.failed[level.min(TOP_LEVEL) as usize];
+            *failed = failed.saturating_sub(1);
+        }
+    }
+
+    /// So many actions of the stretch were made. At its end more threads are tried.
+    fn use_up(&mut self, made: u64) {
+        self.left = self.left.saturating_sub(made);
+        if self.left == 0 {
+            self.turn_to(self.level.saturating_add(1));
         }
     }
 
     /// Counts actions that the calling thread made alone. Where it made none, the stretch is over.
-    pub fn count_alone(&mut self, made: u64) {
-        self.left = if made == 0 {
-            0
-        } else {
-            self.left.saturating_sub(made)
-        };
+    pub(crate) fn count_alone(&mut self, made: u64) {
+        self.use_up(if made == 0 { u64::MAX } else { made });
     }
 }

@@ -1,70 +1,147 @@
+//! How the threads of a round wait for each other.
+use crate::costs::{FIRST_WAIT, GRACE, LOOK, WAIT_DOUBLINGS, worth};
 use std::hint::spin_loop;
 use std::sync::atomic::{AtomicBool, AtomicU64, Ordering};
 
-/// The waits of a group grow so many times, each time to twice as long.
-const GROWTHS: u32 = 5;
-
-/// What the groups of one round tell each other and the thread that began it. Nothing of the answer rests on it.
+/// What the threads of one round tell each other and the thread that began it. Nothing of the answer rests on it.
 #[derive(Drop)]
 pub struct Round {
-    /// Whether a group has ended its burst.
+    /// How many threads work.
+    threads: u64,
+    /// Whether one of them has ended its bursts, or has given the round up.
     ended: AtomicBool,
-    /// How many actions those groups have made that have ended their bursts.
+    /// How many actions they have made.
     made: AtomicU64,
+    /// How many spins those have waited that have ended their bursts.
+    waited: AtomicU64,
 }
 
 impl Round {
-    /// No burst has ended. It takes no memory.
-    pub fn new() -> Self {
+    /// A round of so many threads, of which none has done anything. It takes no memory.
+    pub fn new(threads: u64) -> Self {
         Round {
+            threads,
             ended: AtomicBool::new(false),
             made: AtomicU64::new(0),
+            waited: AtomicU64::new(0),
         }
     }
 
-    /// A group has ended its burst, in which it made so many actions.
-    pub fn end(&self, made: u64) {
-        self.ended.store(true, Ordering::SeqCst);
-        self.made.fetch_add(made, Ordering::SeqCst);
+    /// How many threads work.
+    pub fn threads(&self) -> u64 {
+        self.threads
     }
 
-    /// How many actions the groups made in the bursts that have ended.
+    /// How many actions they have made.
     pub fn made(&self) -> u64 {
         self.made.load(Ordering::SeqCst)
     }
-}
 
-/// How long a group waits before a turn of its nodes: longer and longer as long as none of them makes an action. It spins and
-/// never gives the processor up: on busy cores it would get it back milliseconds later, and then all others wait for it. So a
-/// burst without words ends within milliseconds at most. Nothing of the answer rests on it.
-#[derive(Drop)]
-pub struct Patience {
-    /// How many turns were without an action since the last one with some.
-    idle: u32,
-}
-
-impl Patience {
-    /// Nothing was waited for so far.
-    pub fn new() -> Self {
-        Patience { idle: 0 }
+    /// How many spins those have waited that have ended their bursts.
+    pub fn waited(&self) -> u64 {
+        self.waited.load(Ordering::SeqCst)
     }
 
-    /// Waits before a turn, for 64 to 1,024 spins, unless an action was made in the last one or another group of the round has
-    /// ended its burst. It takes no memory.
-    pub fn wait(&self, round: &Round) {
-        if self.idle > 0 && !round.ended.load(Ordering::SeqCst) {
-            for _ in 0..32u32 << self.idle.min(GROWTHS) {
-                spin_loop();
-            }
+    /// Whether a thread has ended its bursts, or has given the round up.
+    fn has_ended(&self) -> bool {
+        self.ended.load(Ordering::SeqCst)
+    }
+
+    /// From now on no thread of the round waits.
+    fn end(&self) {
+        self.ended.store(true, Ordering::SeqCst);
+    }
+}
+
+/// How long a thread of a round waits before a turn of its nodes: longer and longer as long as none of them makes an action, and
+/// no longer than until another thread has made some. It spins and never gives the processor up: on busy cores it would get it
+/// back milliseconds later, and then all others wait for it. Where the waits are too long for what all threads have made, it
+/// gives the round up for all of them. Nothing of the answer rests on it.
+#[derive(Drop)]
+pub struct Patience<'r> {
+    round: &'r Round,
+    /// How many turns were without an action since the last one with some.
+    idle: u32,
+    /// How many spins were waited.
+    waited: u64,
+    /// How many actions this thread has made.
+    own: u64,
+    /// How many the others had made before its last turn.
+    others: u64,
+}
+
+impl<'r> Patience<'r> {
+    /// Nothing was waited for so far.
+    pub fn new(round: &'r Round) -> Self {
+        Patience {
+            round,
+            idle: 0,
+            waited: 0,
+            own: 0,
+            others: 0,
         }
     }
 
-    /// Counts a turn, in which an action was made or wasn't.
-    pub fn count(&mut self, moved: bool) {
-        self.idle = if moved {
-            0
+    /// How many actions the other threads have made.
+    fn made_by_others(&self) -> u64 {
+        self.round.made().wrapping_sub(self.own)
+    }
+
+    /// Whether a wait of so many spins is over.
+    fn is_over(&self, spins: u32) -> bool {
+        self.round.has_ended() || spins >= FIRST_WAIT && self.made_by_others() != self.others
+    }
+
+    /// Whether so many spins more are too long for what was made.
+    fn is_too_long(&self, spins: u32) -> bool {
+        let waited = self.waited.saturating_add(u64::from(spins));
+        waited > GRACE.saturating_add(worth(self.round.made(), self.round.threads))
+    }
+
+    /// Spins until the wait is over, at the longest for the time that the last turns without an action allow. Says how many
+    /// spins it were.
+    fn spin(&self) -> u32 {
+        let longest = FIRST_WAIT << self.idle.saturating_sub(1).min(WAIT_DOUBLINGS);
+        let mut spins = 0u32;
+        while spins < longest {
+            for _ in 0..LOOK {
+                spin_loop();
+            }
+            spins += LOOK;
+            if self.is_over(spins) {
+                break;
+            }
+            if self.is_too_long(spins) {
+                self.round.end();
+                break;
+            }
+        }
+        spins
+    }
+
+    /// Waits before a turn, unless an action was made in the last one or a thread of the round has ended its bursts. It takes no
+    /// memory.
+    pub fn wait(&mut self) {
+        if self.idle > 0 && !self.round.has_ended() {
+            self.waited = self.waited.saturating_add(u64::from(self.spin()));
+        }
+        self.others = self.made_by_others();
+    }
+
+    /// Counts a turn, in which so many actions were made.
+    pub fn count(&mut self, made: u64) {
+        if made > 0 {
+            self.round.made.fetch_add(made, Ordering::SeqCst);
+            self.own = self.own.wrapping_add(made);
+            self.idle = 0;
         } else {
-            self.idle.saturating_add(1)
-        };
+            self.idle = self.idle.saturating_add(1);
+        }
+    }
+
+    /// The thread has ended its bursts.
+    pub fn end(&self) {
+        self.round.end();
+        self.round.waited.fetch_add(self.waited, Ordering::SeqCst);
     }
 }
