@@ -13,6 +13,7 @@ the plan. All runs have to write the same trace.
 import os
 import pathlib
 import random
+import resource
 import shutil
 import statistics
 import subprocess
@@ -116,37 +117,39 @@ class Bench:
         self.wires = (folder / "p").read_text().split("\n")[0].split()[3]
 
     def call(self, words):
-        begun = time.monotonic()
+        begun, used = time.monotonic(), used_by_others()
         ended = subprocess.run(words, cwd=self.folder, capture_output=True, timeout=300)
         if ended.returncode:
             sys.exit(f"{words} in {self.folder}: {ended.stderr.decode()}")
-        return ended.stdout, time.monotonic() - begun
+        seconds = time.monotonic() - begun
+        return ended.stdout, seconds, (used_by_others() - used) / seconds
 
     def run(self, program, workers):
-        """The seconds of a run, without those of a run over no clocks."""
+        """The seconds of a run, without those of a run over no clocks; and how many processors others used."""
         words = lambda stimulus: [program, "run", "d", "b", stimulus, "plan=p", f"workers={workers}"]
-        text, seconds = self.call(words("s"))
+        text, seconds, others = self.call(words("s"))
         self.wanted = self.wanted or text
         if text != self.wanted:
             sys.exit(f"{self.name} with {workers} workers: another trace, in {self.folder}")
-        return seconds - self.call(words("none"))[1]
+        return max(1e-3, seconds - self.call(words("none"))[1]), others
 
-    def ratios(self, alone, program, workers, runs):
-        """How many times as fast a program is with so many workers as one worker of another."""
-        found = []
-        for _ in range(runs):
-            before = self.run(alone, 1)
-            found.append(before / max(1e-3, self.run(program, workers)))
-        return found
+    def pair(self, alone, program, workers):
+        """How many times as fast a program is with so many workers as one worker of another, and what others used."""
+        before, some = self.run(alone, 1)
+        after, others = self.run(program, workers)
+        return before / after, (some + others) / 2
+
+
+def used_by_others():
+    """How many seconds of all processors other programs have used so far."""
+    ticks = [int(word) for word in pathlib.Path("/proc/stat").read_text().split("\n")[0].split()[1:]]
+    children = resource.getrusage(resource.RUSAGE_CHILDREN)
+    return (sum(ticks[:3]) + sum(ticks[5:8])) / os.sysconf("SC_CLK_TCK") - children.ru_utime - children.ru_stime
 
 
 def busy(count):
     """So many programs that keep a processor busy each."""
     return [subprocess.Popen([sys.executable, "-c", "while True: pass"]) for _ in range(count)]
-
-
-def load():
-    return os.getloadavg()[0]
 
 
 def entry(ratios):
@@ -157,6 +160,17 @@ def numbers(words, place, default):
     return [int(word) for word in (words[place] if len(words) > place else default).split(",")]
 
 
+def benches_in(top, program, chosen):
+    """The designs with these numbers, planned."""
+    for number in chosen:
+        name, design, its_board, clocks = DESIGNS[number]
+        folder = pathlib.Path(top) / str(number)
+        folder.mkdir()
+        (folder / "d").write_text(design())
+        (folder / "b").write_text(its_board())
+        yield Bench(program, folder, name, clocks)
+
+
 def main():
     words = sys.argv
     if len(words) < 2:
@@ -165,32 +179,27 @@ def main():
     program, workers, beside = find(words[1]), numbers(words, 2, "1,2,3,4,16"), numbers(words, 3, "0,2,4")
     runs = int(words[4]) if len(words) > 4 else 5
     programs = ([("old", find(words[5]))] if len(words) > 5 else []) + [("new", program)]
-    only = os.environ.get("DESIGNS", "")
     with tempfile.TemporaryDirectory() as top:
-        benches = []
-        for number, (name, design, its_board, clocks) in enumerate(DESIGNS):
-            if only and str(number) not in only.split(","):
-                continue
-            folder = pathlib.Path(top) / str(number)
-            folder.mkdir()
-            (folder / "d").write_text(design())
-            (folder / "b").write_text(its_board())
-            benches.append(Bench(program, folder, name, clocks))
-            print(f"{name}: {benches[-1].wires} wires, a period of {benches[-1].period}, {clocks} clocks", flush=True)
+        benches = list(benches_in(top, program, range(len(DESIGNS))))
+        for bench in benches:
+            print(f"{bench.name}: {bench.wires} wires, a period of {bench.period}")
         for others in beside:
-            print(f"\n{others} processors busy, {os.cpu_count()} in all. A load of {load():.1f} before.\n")
-            print("| design | workers | " + " | ".join(name for name, _ in programs) + " | load |")
+            print(f"\n{others} of {os.cpu_count()} processors kept busy\n")
+            print("| design | workers | " + " | ".join(name for name, _ in programs) + " | others |")
             print("|---|---|" + "---|" * len(programs) + "---|", flush=True)
             kept = busy(others)
             try:
                 for bench in benches:
                     for many in workers:
-                        entries = [entry(bench.ratios(program, made, many, runs)) for _, made in programs]
-                        print(f"| {bench.name} | {many} | " + " | ".join(entries) + f" | {load():.1f} |", flush=True)
+                        made = [[bench.pair(program, it, many) for _ in range(runs)] for _, it in programs]
+                        entries = [entry([ratio for ratio, _ in pairs]) for pairs in made]
+                        used = statistics.median(some for pairs in made for _, some in pairs)
+                        print(f"| {bench.name} | {many} | " + " | ".join(entries) + f" | {used:.1f} |", flush=True)
             finally:
                 for other in kept:
                     other.kill()
                     other.wait()
 
 
-main()
+if __name__ == "__main__":
+    main()

@@ -1,7 +1,7 @@
 //! How many threads the rounds of a run are worth.
 ghost use Rattle.std.specs.Prelude.{◌<◌};
 
-use crate::costs::{FIRST_STRETCH, FORK, GOOD_ROUNDS, GRACE, STRETCH_DOUBLINGS, TOP_LEVEL, worth};
+use crate::costs::{FORK, GOOD_ROUNDS, GRACE, REST, STRETCH, STRETCH_DOUBLINGS, TOP_LEVEL, worth};
 use crate::patience::Round;
 
 /// How many levels there are.
@@ -11,20 +11,23 @@ const LEVELS: usize = 7;
 /// spares time: no answer rests on it.
 ///
 /// Threads that only hand words to each other wait for each other, and on busy cores each hand-over costs a turn of the
-/// scheduler. So the waits of rounds are counted against the actions that they made: where too much was waited, half as many
-/// threads work for a stretch of actions, each on more groups, and at last the calling thread alone. Then more threads are
-/// tried again. Each time that they fail, their next stretch is twice as long.
+/// scheduler. So the waits of rounds are counted against the actions that they made. Where too much was waited, the calling
+/// thread goes on alone for a while, and then fewer threads are tried, each of which has more groups. After a stretch of good
+/// rounds, or of actions of the calling thread alone, more threads are tried again: a stretch that doubles each time that they
+/// fail.
 #[derive(Drop)]
 pub struct Pace {
     /// At most 2 to the power of this many threads work; at 0 the calling thread alone.
     level: u32,
-    /// How many spins each thread may wait beyond what the rounds of the level are worth.
+    /// The level after this one.
+    next: u32,
+    /// How many actions are left until then.
+    left: u64,
+    /// How many spins each thread may wait beyond what a round is worth, by what earlier rounds of the level were worth.
     credit: u64,
     /// How many rounds in a row were worth their threads.
     good: u32,
-    /// How many actions of the stretch are left.
-    left: u64,
-    /// How often the stretch of each level was doubled.
+    /// How often each level has failed, less what good rounds have made up for.
     failed: [u32; LEVELS],
 }
 
@@ -43,9 +46,10 @@ impl Pace {
     pub fn new() -> Self {
         Pace {
             level: TOP_LEVEL,
-            credit: GRACE,
-            good: 0,
+            next: TOP_LEVEL,
             left: 0,
+            credit: 0,
+            good: 0,
             failed: [0; LEVELS],
         }
     }
@@ -62,16 +66,40 @@ impl Pace {
         groups.div_ceil(1usize << self.level.min(TOP_LEVEL)).max(1)
     }
 
-    /// From now on so many threads as the level says work.
+    /// After how many actions a level is tried: at once where it hasn't failed.
+    fn stretch(&self, level: u32) -> u64 {
+        match self.failed[level.min(TOP_LEVEL) as usize] {
+            0 => 0,
+            times => STRETCH << times.saturating_sub(1).min(STRETCH_DOUBLINGS),
+        }
+    }
+
+    /// From now on as many threads work as a level says, until the one above it is tried.
     fn turn_to(&mut self, level: u32) {
         self.level = level;
-        self.credit = GRACE;
+        self.next = level.saturating_add(1);
+        self.left = self.stretch(self.next);
+        self.credit = 0;
         self.good = 0;
+    }
+
+    /// So many actions were made at this level. At the end of the stretch the next one is tried.
+    fn use_up(&mut self, made: u64) {
+        self.left = self.left.saturating_sub(made);
+        if self.left == 0 {
+            self.turn_to(self.next);
+        }
+    }
+
+    /// Counts actions that the calling thread made alone. Where it made none, the stretch is over.
+    pub(crate) fn count_alone(&mut self, made: u64) {
+        self.use_up(if made == 0 { u64::MAX } else { made });
     }
 
     /// Counts a round of so many groups.
     pub(crate) fn count_round(&mut self, groups: usize, round: &Round) {
-        let level = self.level.min(top_of(groups));
+        let top = top_of(groups);
+        let level = self.level.min(top);
         let credit = self
             .credit
             .saturating_add(worth(round.made(), round.threads()));
@@ -82,17 +110,9 @@ impl Pace {
         }
         self.credit = (credit - cost).min(3 * GRACE);
         self.count_good(level);
-        if level < top_of(groups) {
+        if level < top {
             self.use_up(round.made());
         }
-    }
-
-    /// Fewer threads work than at this level for a stretch.
-    fn fail(&mut self, level: u32) {
-        let failed = &mut self.failed[level.min(TOP_LEVEL) as usize];
-        self.left = FIRST_STRETCH << (*failed).min(STRETCH_DOUBLINGS);
-        *failed = failed.saturating_add(1).min(STRETCH_DOUBLINGS);
-        self.turn_to(level.saturating_sub(1));
     }
 
     /// Counts a round at this level that was worth its threads.
@@ -105,16 +125,20 @@ impl Pace {
         }
     }
 
-    /// So many actions of the stretch were made. At its end more threads are tried.
-    fn use_up(&mut self, made: u64) {
-        self.left = self.left.saturating_sub(made);
-        if self.left == 0 {
-            self.turn_to(self.level.saturating_add(1));
+    /// A level has failed. The calling thread goes on alone, and then comes the level below it; or that of half as much, where
+    /// it has failed for the first time, so that many workers on few cores soon come to as many threads as there are cores.
+    fn fail(&mut self, level: u32) {
+        let failed = &mut self.failed[level.min(TOP_LEVEL) as usize];
+        *failed = failed.saturating_add(1).min(STRETCH_DOUBLINGS + 1);
+        let lower = if *failed == 1 {
+            level / 2
+        } else {
+            level.saturating_sub(1)
+        };
+        self.turn_to(0);
+        if lower > 0 {
+            self.next = lower;
+            self.left = REST;
         }
-    }
-
-    /// Counts actions that the calling thread made alone. Where it made none, the stretch is over.
-    pub(crate) fn count_alone(&mut self, made: u64) {
-        self.use_up(if made == 0 { u64::MAX } else { made });
     }
 }

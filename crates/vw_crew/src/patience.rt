@@ -1,6 +1,5 @@
 //! How the threads of a round wait for each other.
-use crate::costs::{FIRST_WAIT, GRACE, LOOK, WAIT_DOUBLINGS, worth};
-use std::hint::spin_loop;
+use crate::costs::{DOUBLINGS, FIRST_LOOKS, GRACE, LOOK, worth};
 use std::sync::atomic::{AtomicBool, AtomicU64, Ordering};
 
 /// What the threads of one round tell each other and the thread that began it. Nothing of the answer rests on it.
@@ -62,8 +61,9 @@ pub struct Patience<'r> {
     round: &'r Round,
     /// How many turns were without an action since the last one with some.
     idle: u32,
-    /// How many spins were waited.
-    waited: u64,
+    /// How many spins were waited. A spin is the addition to this word, which takes nearly as long on all processors, while what a
+    /// `spin_loop` takes differs by a factor of ten.
+    spins: AtomicU64,
     /// How many actions this thread has made.
     own: u64,
     /// How many the others had made before its last turn.
@@ -76,7 +76,7 @@ impl<'r> Patience<'r> {
         Patience {
             round,
             idle: 0,
-            waited: 0,
+            spins: AtomicU64::new(0),
             own: 0,
             others: 0,
         }
@@ -87,43 +87,38 @@ impl<'r> Patience<'r> {
         self.round.made().wrapping_sub(self.own)
     }
 
-    /// Whether a wait of so many spins is over.
-    fn is_over(&self, spins: u32) -> bool {
-        self.round.has_ended() || spins >= FIRST_WAIT && self.made_by_others() != self.others
+    /// Whether the waits are too long for what was made.
+    fn is_lost(&self) -> bool {
+        let spins = self.spins.load(Ordering::SeqCst);
+        spins > GRACE.saturating_add(worth(self.round.made(), self.round.threads))
     }
 
-    /// Whether so many spins more are too long for what was made.
-    fn is_too_long(&self, spins: u32) -> bool {
-        let waited = self.waited.saturating_add(u64::from(spins));
-        waited > GRACE.saturating_add(worth(self.round.made(), self.round.threads))
+    /// Whether a wait with so many looks is over.
+    fn is_over(&self, looks: u32) -> bool {
+        if self.is_lost() {
+            self.round.end();
+        }
+        self.round.has_ended() || looks >= FIRST_LOOKS && self.made_by_others() != self.others
     }
 
-    /// Spins until the wait is over, at the longest for the time that the last turns without an action allow. Says how many
-    /// spins it were.
-    fn spin(&self) -> u32 {
-        let longest = FIRST_WAIT << self.idle.saturating_sub(1).min(WAIT_DOUBLINGS);
-        let mut spins = 0u32;
-        while spins < longest {
+    /// Spins until the wait is over, or for as long as the last turns without an action allow.
+    fn spin(&self) {
+        let longest = FIRST_LOOKS << self.idle.saturating_sub(1).min(DOUBLINGS);
+        for looks in 1..=longest {
             for _ in 0..LOOK {
-                spin_loop();
+                self.spins.fetch_add(1, Ordering::SeqCst);
             }
-            spins += LOOK;
-            if self.is_over(spins) {
-                break;
-            }
-            if self.is_too_long(spins) {
-                self.round.end();
+            if self.is_over(looks) {
                 break;
             }
         }
-        spins
     }
 
     /// Waits before a turn, unless an action was made in the last one or a thread of the round has ended its bursts. It takes no
     /// memory.
     pub fn wait(&mut self) {
         if self.idle > 0 && !self.round.has_ended() {
-            self.waited = self.waited.saturating_add(u64::from(self.spin()));
+            self.spin();
         }
         self.others = self.made_by_others();
     }
@@ -142,6 +137,7 @@ impl<'r> Patience<'r> {
     /// The thread has ended its bursts.
     pub fn end(&self) {
         self.round.end();
-        self.round.waited.fetch_add(self.waited, Ordering::SeqCst);
+        let spins = self.spins.load(Ordering::SeqCst);
+        self.round.waited.fetch_add(spins, Ordering::SeqCst);
     }
 }
