@@ -507,3 +507,11 @@ for chips in "2 2" "4 4"; do
   window 60000 400 >design.blif
   ran "60,000 cells, window of 400" 60000 $chips 1000 1
 done
+
+# sim beside Verilator's compiled program of the same netlist
+echo
+if command -v yosys >/dev/null && command -v verilator >/dev/null; then
+  "$top/bench/merged.py" "$program" || echo "outputs differ" >&2
+else
+  echo "yosys or verilator isn't installed: no comparison" >&2
+fi

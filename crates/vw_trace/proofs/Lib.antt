@@ -3,3 +3,4 @@ pub mod Streaming
 pub mod StreamedTexts
 pub mod RecordedBatches
 pub mod Silence
+pub mod MergedTraces

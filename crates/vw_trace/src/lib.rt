@@ -5,6 +5,7 @@
 mod batch;
 mod engine;
 mod fault;
+mod merged;
 mod record;
 mod recorder;
 mod simulation;
@@ -13,6 +14,7 @@ mod trace_recorder;
 
 pub use engine::{Batch, Engine};
 pub use fault::RunFault;
+pub use merged::merged_before;
 pub use record::{BATCH, record_run};
 pub use recorder::{Recorder, write_batch};
 pub use simulation::Simulation;

@@ -9,6 +9,7 @@ ghost use Rattle.vw_trace.specs.Streamed.{Feeds, Streams};
 
 use crate::engine::Engine;
 use crate::fault::RunFault;
+use crate::merged::merged_before;
 use crate::record::record_run;
 use crate::simulation::Simulation;
 use crate::trace_recorder::TraceRecorder;
@@ -62,12 +63,8 @@ pub fn write_trace_by<E: Engine, S: Shelf, O: Sink>(
     record_run(alloc, engine, rows, &mut recorder, out)
 }
 
-/// Runs a netlist over all rows that a stimulus still gives, and appends its trace. The last `probes` outputs of the netlist
-/// are probes. Free latches start at `unknown`. The stimulus is read again in batches of 256 clocks, and memory is taken for
-/// one batch at a time. Where a read or a write fails or memory runs out, a front of the trace was appended. Where nothing is
-/// told of the text of the stimulus, it may have changed since it was checked: then it may be found at fault, or the trace is
-/// that of other rows with the same width, as many as were counted.
-pub fn write_trace<S: Shelf, O: Sink>(
+/// Simulates a netlist over all rows that a stimulus still gives, and appends its trace.
+fn simulate<S: Shelf, O: Sink>(
     alloc: Global,
     ordered: &Ordered,
     probes: u32,
@@ -84,4 +81,30 @@ pub fn write_trace<S: Shelf, O: Sink>(
     let start = ordered.flat().start(alloc, unknown)?;
     let mut simulation = Simulation::make(alloc, ordered, start)?;
     write_trace_by(alloc, &mut simulation, probes, rows, out)
+}
+
+/// Runs a netlist over all rows that a stimulus still gives, and appends its trace. The last `probes` outputs of the netlist
+/// are probes. Free latches start at `unknown`. Where there are many clocks, a netlist with fewer tables is run in its place.
+/// The stimulus is read again in batches of 256 clocks, and memory is taken for one batch at a time. Where a read or a write
+/// fails or memory runs out, a front of the trace was appended. Where nothing is told of the text of the stimulus, it may have
+/// changed since it was checked: then it may be found at fault, or the trace is that of other rows with the same width, as
+/// many as were counted.
+pub fn write_trace<S: Shelf, O: Sink>(
+    alloc: Global,
+    ordered: &Ordered,
+    probes: u32,
+    unknown: bool,
+    rows: &mut Rereading<'_, '_, S>,
+    out: &mut O,
+) -> Result<(), RunFault>
+    requires columns { rows.old.stimulus.now.width ≡ ordered.now.flat.inputs }
+    requires probes { probes ≤ length ordered.now.flat.outputs }
+    ensures shelf { rows.new.shelf.ghost_name ≡ rows.old.shelf.ghost_name }
+    ensures streams { Streams (flat_trace probes unknown ordered.now.flat) (λ _. Unit {0})
+        rows.old rows.new (O.seen out.old) (O.seen out.new) result }
+{
+    match merged_before(alloc, ordered, rows) {
+        Some(merged) => simulate(alloc, &merged, probes, unknown, rows, out),
+        None => simulate(alloc, ordered, probes, unknown, rows, out),
+    }
 }

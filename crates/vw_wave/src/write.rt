@@ -13,7 +13,7 @@ use std::alloc::Global;
 use vw_net::{Flat, Ordered};
 use vw_outside::{Name, Shelf, Sink, Unwritten, put_text};
 use vw_rows::Rereading;
-use vw_trace::{Engine, RunFault, Simulation, record_run};
+use vw_trace::{Engine, RunFault, Simulation, merged_before, record_run};
 use vw_vcd::head;
 
 /// Writes the head of a wave of signals with these names.
@@ -58,10 +58,8 @@ pub fn write_wave_by<E: Engine, S: Shelf, O: Sink>(
     record_run(alloc, engine, rows, &mut recorder, out)
 }
 
-/// Runs a netlist over all rows that a stimulus still gives, and appends its wave, as `write_wave_by` does of an engine. Its
-/// signals are the outputs and behind them the latches, in the order of the cells; `names` are their printed nets. Free
-/// latches start at `unknown`.
-pub fn write_wave<S: Shelf, O: Sink>(
+/// Simulates a netlist over all rows that a stimulus still gives, and appends its wave.
+fn simulate<S: Shelf, O: Sink>(
     alloc: Global,
     ordered: &Ordered,
     names: &[Name],
@@ -79,4 +77,28 @@ pub fn write_wave<S: Shelf, O: Sink>(
     let start = ordered.flat().start(alloc, unknown)?;
     let mut simulation = Simulation::make(alloc, ordered, start)?;
     write_wave_by(alloc, &mut simulation, names, rows, out)
+}
+
+/// Runs a netlist over all rows that a stimulus still gives, and appends its wave, as `write_wave_by` does of an engine. Its
+/// signals are the outputs and behind them the latches, in the order of the cells; `names` are their printed nets. Free
+/// latches start at `unknown`. Where there are many clocks, a netlist with fewer tables is run in its place.
+pub fn write_wave<S: Shelf, O: Sink>(
+    alloc: Global,
+    ordered: &Ordered,
+    names: &[Name],
+    unknown: bool,
+    rows: &mut Rereading<'_, '_, S>,
+    out: &mut O,
+) -> Result<(), RunFault>
+    requires columns { rows.old.stimulus.now.width ≡ ordered.now.flat.inputs }
+    requires names { length names.now ≡ length ordered.now.flat.outputs
+        + latch_count ordered.now.flat.cells }
+    ensures shelf { rows.new.shelf.ghost_name ≡ rows.old.shelf.ghost_name }
+    ensures streams { Streams (flat_wave names.now unknown ordered.now.flat) (λ _. Unit {0})
+        rows.old rows.new (O.seen out.old) (O.seen out.new) result }
+{
+    match merged_before(alloc, ordered, rows) {
+        Some(merged) => simulate(alloc, &merged, names, unknown, rows, out),
+        None => simulate(alloc, ordered, names, unknown, rows, out),
+    }
 }

@@ -1,35 +1,17 @@
-use Rattle.std.proofs.Common.{◌≡◌, ◌∙◌, List, Bool, length, ap, ap₂}
-use Rattle.std.proofs.lemmas.Result.{err_from_is_err_and}
-use Rattle.vw_net.specs.declared.flat.Flat.{Flat}
-use Rattle.vw_net.specs.declared.ordered.Ordered.{Ordered}
-use Rattle.vw_net.specs.Cells.{start_values}
-use Rattle.vw_net.proofs.Counts.{length-start_values}
-use Rattle.vw_trace.proofs.StreamedTexts.{nothing_streamed, streams_as}
-use Rattle.vw_wave.specs.FlatWave.{flat_wave, wave_from}
-use Rattle.vw_wave.proofs.write.write_wave.Given.{Over}
+use Rattle.std.proofs.Common.{◌≡◌, ◌∙◌, sym, arith}
+use Rattle.vw_trace.proofs.StreamedTexts.{streams_as}
+use Rattle.vw_wave.proofs.MergedWaves.{same_wave}
 use Rattle.vw_wave.proofs.write.write_wave.Goals as goal
-use Rattle.vw_wave.proofs.write.write_wave.Goals.{In_ok-start}
 
-pub returns-in_err-start-clause-streams : goal.returns-in_err-start-clause-streams
-returns-in_err-start-clause-streams g c =
-    let p = err_from_is_err_and c.from_residual.result c.from_residual.ensures.1 in
-    rw (p.1, p.2) (nothing_streamed c.args.rows.now (flat_wave c.args.names.now c.args.unknown c.args.ordered.now.flat) (λ these. Unit {0}) tt (g.O.Sink.seen c.args.out.now))
+pub simulate-requires : goal.simulate-requires
+simulate-requires g c = record {
+  columns = c.requires.columns ∙ sym c.in-Some.ensures.inputs;
+  names = omega (arith, c.requires.names, c.in-Some.ensures.outputs, c.in-Some.ensures.latches);
+}
 
-pub returns-in_err-simulation-clause-streams : goal.returns-in_err-simulation-clause-streams
-returns-in_err-simulation-clause-streams g c =
-    let p = err_from_is_err_and c.from_residual-in_err-simulation.result c.from_residual-in_err-simulation.ensures.1 in
-    rw (p.1, p.2) (nothing_streamed c.args.rows.now (flat_wave c.args.names.now c.args.unknown c.args.ordered.now.flat) (λ these. Unit {0}) tt (g.O.Sink.seen c.args.out.now))
-
--- the latches start with the start values, and there are as many
-starts : (g : Over) (c : In_ok-start g) → c.in_ok-start.start ≡ start_values c.args.unknown c.args.ordered.now.flat.cells
-starts g c = c.in_ok-start.ensures ∙ ap (λ (one : Flat). start_values c.args.unknown one.cells) c.flat.ensures
-
-pub make-requires : goal.make-requires
-make-requires g c =
-    ap (λ (bits : List Bool). length bits) (starts g (goal.at.make-requires g c).In_ok-start) ∙ length-start_values c.args.unknown c.args.ordered.now.flat.cells
-
-pub returns-clause-streams : goal.returns-clause-streams
-returns-clause-streams g c =
-    let its = c.in_ok-simulation.ensures in
-    let state : c.in_ok-simulation.simulation.state ≡ start_values c.args.unknown c.args.ordered.now.flat.cells = its.starts ∙ starts g (goal.at.returns-clause-streams g c).In_ok-start in
-    streams_as (λ these. ap₂ (λ (bits : List Bool) (one : Ordered). wave_from c.args.names.now bits one.flat these) state its.simulator) (λ these done. tt) c.write_wave_by.ensures
+-- the merged netlist has the same wave
+pub returns-in-Some : goal.returns-in-Some
+returns-in-Some g c = record {
+  shelf = c.simulate.ensures.shelf;
+  streams = streams_as (λ these. same_wave c.args.names.now c.args.unknown c.args.ordered.now.flat c.in-Some.merged.flat these c.in-Some.ensures) (λ these done. tt) c.simulate.ensures.streams;
+}

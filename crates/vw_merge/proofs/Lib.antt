@@ -1,0 +1,9 @@
+pub mod Lanes
+pub mod RowLanes
+pub mod LeafWords
+pub mod ListEnds
+pub mod GateCells
+pub mod GatheredWords
+pub mod Carried
+pub mod NewLatches
+pub mod SameHistories

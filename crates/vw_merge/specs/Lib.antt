@@ -1,0 +1,4 @@
+pub mod Same
+pub mod Words
+pub mod Tables
+pub mod Merging
