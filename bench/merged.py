@@ -20,85 +20,8 @@ import sys
 import tempfile
 import time
 
-SUMS = """
-module sums(input clk, input [31:0] x, input [31:0] k, output [31:0] y);
-  reg [31:0] a [0:15];
-  reg [31:0] b [0:15];
-  integer i;
-  initial for (i = 0; i < 16; i = i + 1) begin a[i] = 0; b[i] = 0; end
-  assign y = a[15] ^ b[15];
-  always @(posedge clk) begin
-    a[0] <= x + k;
-    b[0] <= {x[26:0], x[31:27]} ^ k;
-    for (i = 1; i < 16; i = i + 1) begin
-      a[i] <= a[i - 1] + {b[i - 1][24:0], b[i - 1][31:25]};
-      b[i] <= b[i - 1] ^ (a[i - 1] + b[i - 1]);
-    end
-  end
-endmodule
-"""
-ROUNDS = """
-module rounds(input clk, input [31:0] w, output [31:0] y);
-  reg [31:0] a, b, c, d, e, f, g, h;
-  initial begin
-    a = 32'h6a09e667; b = 32'hbb67ae85; c = 32'h3c6ef372; d = 32'ha54ff53a;
-    e = 32'h510e527f; f = 32'h9b05688c; g = 32'h1f83d9ab; h = 32'h5be0cd19;
-  end
-  wire [31:0] s1 = {e[5:0], e[31:6]} ^ {e[10:0], e[31:11]} ^ {e[24:0], e[31:25]};
-  wire [31:0] t1 = h + s1 + ((e & f) ^ (~e & g)) + 32'h428a2f98 + w;
-  wire [31:0] s0 = {a[1:0], a[31:2]} ^ {a[12:0], a[31:13]} ^ {a[21:0], a[31:22]};
-  wire [31:0] t2 = s0 + ((a & b) ^ (a & c) ^ (b & c));
-  assign y = a ^ h;
-  always @(posedge clk) begin h <= g; g <= f; f <= e; e <= d + t1; d <= c; c <= b; b <= a; a <= t1 + t2; end
-endmodule
-"""
-PRODUCTS = """
-module products(input clk, input [23:0] x, input [23:0] k, output [47:0] y);
-  reg [23:0] a, b;
-  reg [47:0] p, q;
-  initial begin a = 0; b = 0; p = 0; q = 0; end
-  assign y = q;
-  always @(posedge clk) begin a <= x; b <= k ^ q[23:0]; p <= a * b; q <= q + p; end
-endmodule
-"""
-PROCESSOR = """
-module processor(input clk, input [15:0] word, input [15:0] given, output [15:0] shown, output [15:0] at);
-  reg [15:0] r [0:15];
-  reg [15:0] pc, o, v;
-  integer i;
-  initial begin for (i = 0; i < 16; i = i + 1) r[i] = 0; pc = 0; o = 0; end
-  wire [3:0] op = word[15:12];
-  wire [15:0] a = r[word[7:4]];
-  wire [15:0] b = r[word[3:0]];
-  always @* case (op)
-    0: v = a + b; 1: v = a - b; 2: v = a & b; 3: v = a | b; 4: v = a ^ b; 5: v = a << b[3:0]; 6: v = a >> b[3:0];
-    7: v = {8'd0, word[7:0]}; 8: v = given; 9: v = a * b; 10: v = {a[7:0], b[7:0]}; 11: v = (a < b) ? 1 : 0;
-    12: v = pc; 13: v = ~a; 14: v = a + 1; default: v = b;
-  endcase
-  assign shown = o;
-  assign at = pc;
-  always @(posedge clk) begin
-    r[word[11:8]] <= v; o <= (op == 15) ? a : o; pc <= (op == 12 && a != 0) ? b : pc + 1;
-  end
-endmodule
-"""
-MEMORY = """
-module memory(input clk, input [5:0] wa, input [5:0] ra, input [7:0] d, input we, output [7:0] q, output [15:0] crc);
-  reg [7:0] m [0:63];
-  reg [7:0] s;
-  reg [15:0] c, n;
-  integer i;
-  initial begin for (i = 0; i < 64; i = i + 1) m[i] = 0; s = 0; c = 16'hffff; end
-  assign q = s;
-  assign crc = c;
-  always @* begin
-    n = c;
-    for (i = 0; i < 8; i = i + 1) n = (n[15] ^ s[i]) ? ({n[14:0], 1'b0} ^ 16'h1021) : {n[14:0], 1'b0};
-  end
-  always @(posedge clk) begin if (we) m[wa] <= d; s <= m[ra]; c <= n; end
-endmodule
-"""
-DESIGNS = {"sums": SUMS, "rounds": ROUNDS, "products": PRODUCTS, "processor": PROCESSOR, "memory": MEMORY}
+FOLDER = pathlib.Path(__file__).resolve().parent / "designs"
+DESIGNS = ["sums", "rounds", "products", "processor", "memory"]
 FORMS = {"gates": "abc -g AND,NAND,OR,NOR,XOR,XNOR", "4 inputs": "abc -lut 4", "6 inputs": "abc -lut 6"}
 
 
@@ -164,7 +87,7 @@ def timed(words, folder, stdin=None):
 
 def compare(program, name, form, clocks, chance, folder):
     """A line of the table, and whether outputs differ."""
-    (folder / f"{name}.v").write_text(DESIGNS[name])
+    shutil.copy(FOLDER / f"{name}.v", folder)
     run(["yosys", "-q", "-p", synthesis(name, form)], folder)
     run(["yosys", "-q", "-p", f"read_blif -wideports {name}.blif; write_verilog -noattr netlist.v"], folder)
     design = (folder / f"{name}.blif").read_text()

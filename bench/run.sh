@@ -1,7 +1,10 @@
 #!/usr/bin/env bash
 # Times the built program on designs that awk makes, and prints a table in Markdown.
-# It builds nothing: run `rt run` in crates/vwires first. Use: bench/run.sh [FOLDER], where the texts go (default /tmp/vwires-bench).
+# It builds nothing: run `rt run` in crates/vwires first. Use: bench/run.sh [plan] [FOLDER], where the texts go (default /tmp/vwires-bench);
+# `plan` asks for the table of plans that are made, alone. bench/plans.py compares the plans of two programs.
 set -u
+only=
+[ "${1:-}" = plan ] && { only=plan; shift; }
 top=$(cd "$(dirname "$0")/.." && pwd)
 program=$top/crates/vwires/out/vwires
 folder=${1:-/tmp/vwires-bench}
@@ -327,6 +330,7 @@ stimulus_row() {
   echo "| $1 | $(($(stat -c %s "$3") / 1000000)) | $(($(stat -c %s out) / 1000000)) | $status | $seconds | $sums | $peak |"
 }
 
+if [ -z "$only" ]; then
 echo "| design | text, kB | status | message | seconds | peak, MB |"
 echo "|---|---|---|---|---|---|"
 : > none.stim
@@ -421,6 +425,7 @@ expect 4 "plan 13: wire "
 checked "the same, cut off after its second line" early.plan
 expect 4 "plan 2: line 3"
 
+fi
 echo
 echo "| design | chips | wires in blocks | wires of the plan | period | bound | seconds | peak, MB | period, delays of 3 | bound |"
 echo "|---|---|---|---|---|---|---|---|---|---|"
@@ -460,6 +465,7 @@ halves 16384 7919 >design.blif
 planned "halves of halves, 16,384 cells, mixed" 16384 4 8 8
 halves 65536 7919 >design.blif
 planned "halves of halves, 65,536 cells, mixed" 65536 4 8 8
+[ -z "$only" ] || { echo; echo "Cores: $(nproc). Load: $(cut -d ' ' -f 1 /proc/loadavg)."; exit 0; }
 
 echo
 echo "| design | chips | clocks | hops a cell | period | sim | run, 1 worker | 2 | 4 | 1 : sim | 2 : 1 | 4 : 1 | peak MB, 1 worker | load |"

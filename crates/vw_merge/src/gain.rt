@@ -6,8 +6,8 @@ use crate::merge::merged;
 use std::alloc::Global;
 use vw_net::{Cell, Flat, Ordered, TRUTH_TABLE_INPUTS};
 
-/// From how many clocks on a netlist is merged whose gates have two inputs at most. To merge one cell takes as long as some
-/// two thousand clocks of it save.
+/// From how many clocks on a netlist is merged whose gates have two inputs at most. To merge takes as long as some three to
+/// seven thousand clocks save.
 const FROM_CLOCKS: u64 = 4_000;
 
 /// From how many clocks on others are merged: less can be saved, or nothing.
