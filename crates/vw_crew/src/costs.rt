@@ -1,8 +1,9 @@
 //! What waits and threads cost in rounds of bursts, and when rounds are given up. No answer rests on these numbers.
 //!
 //! Their units are spins, actions and turns: no thread reads a clock. A spin is an addition to an atomic word of the thread's own,
-//! 6.4 ns on the four virtual cores of a Xeon at 2.7 GHz, where an action takes 2 to 6 ns. Where two numbers are said to be as
-//! good, both were measured on designs of 400 to 60,000 cells on 4 to 15 chips, with idle and with busy cores.
+//! 6.4 ns on the four virtual cores of a Xeon at 2.7 GHz, where an action takes 2 to 6 ns. Where numbers are said to be as good
+//! or worse, they were tried in a model of these crews in plain Rust, on designs of 400 to 60,000 cells on 4 to 16 chips; here
+//! they were taken over by their times, as powers of two, and only the whole was measured.
 
 /// In one burst each node that isn't done is refused so often: the most turns of a burst.
 pub const REFUSALS: u32 = 256;
@@ -22,8 +23,8 @@ pub const FIRST_LOOKS: u32 = 8;
 /// and use up no turns.
 pub const DOUBLINGS: u32 = 7;
 
-/// How many spins a thread may wait for nothing: in one round before all give it up, and over the rounds of a level before fewer
-/// threads work. It is four tenths of a millisecond, in which a dozen threads start.
+/// How many spins a thread may wait for nothing in one round, before all give it up, beside the time in which threads start. Three
+/// times as much may be left to later rounds from good ones. It is four tenths of a millisecond.
 pub const GRACE: u64 = 1 << 16;
 
 /// How many spins a thread could make while it is started and joined: a tenth of a millisecond.
@@ -49,4 +50,9 @@ pub const GOOD_ROUNDS: u32 = 16;
 pub fn worth(made: u64, threads: u64) -> u64 {
     let time = made / 2;
     time - time / threads.max(1)
+}
+
+/// How many spins a thread may wait in a round of so many threads before any action is made.
+pub fn grace(threads: u64) -> u64 {
+    GRACE.saturating_add(FORK.saturating_mul(threads))
 }

@@ -19,6 +19,8 @@ const LEVELS: usize = 7;
 pub struct Pace {
     /// At most 2 to the power of this many threads work; at 0 the calling thread alone.
     level: u32,
+    /// At this level each group has a thread of its own.
+    top: u32,
     /// The level after this one.
     next: u32,
     /// How many actions are left until then.
@@ -46,6 +48,7 @@ impl Pace {
     pub fn new() -> Self {
         Pace {
             level: TOP_LEVEL,
+            top: TOP_LEVEL,
             next: TOP_LEVEL,
             left: 0,
             credit: 0,
@@ -74,11 +77,13 @@ impl Pace {
         }
     }
 
-    /// From now on as many threads work as a level says, until the one above it is tried.
+    /// From now on as many threads work as a level says, until the one above it is tried, or the top one after the calling thread
+    /// alone: few threads may have more uneven parts of the nodes than many.
     fn turn_to(&mut self, level: u32) {
+        let above = level.saturating_add(1);
         self.level = level;
-        self.next = level.saturating_add(1);
-        self.left = self.stretch(self.next);
+        self.next = if level == 0 { self.top } else { above };
+        self.left = self.stretch(above);
         self.credit = 0;
         self.good = 0;
     }
@@ -98,8 +103,8 @@ impl Pace {
 
     /// Counts a round of so many groups.
     pub(crate) fn count_round(&mut self, groups: usize, round: &Round) {
-        let top = top_of(groups);
-        let level = self.level.min(top);
+        self.top = top_of(groups);
+        let level = self.level.min(self.top);
         let credit = self
             .credit
             .saturating_add(worth(round.made(), round.threads()));
@@ -110,7 +115,7 @@ impl Pace {
         }
         self.credit = (credit - cost).min(3 * GRACE);
         self.count_good(level);
-        if level < top {
+        if level < self.top {
             self.use_up(round.made());
         }
     }

@@ -1,5 +1,5 @@
 //! How the threads of a round wait for each other.
-use crate::costs::{DOUBLINGS, FIRST_LOOKS, GRACE, LOOK, worth};
+use crate::costs::{DOUBLINGS, FIRST_LOOKS, LOOK, grace, worth};
 use std::sync::atomic::{AtomicBool, AtomicU64, Ordering};
 
 /// What the threads of one round tell each other and the thread that began it. Nothing of the answer rests on it.
@@ -90,7 +90,8 @@ impl<'r> Patience<'r> {
     /// Whether the waits are too long for what was made.
     fn is_lost(&self) -> bool {
         let spins = self.spins.load(Ordering::SeqCst);
-        spins > GRACE.saturating_add(worth(self.round.made(), self.round.threads))
+        let threads = self.round.threads;
+        spins > grace(threads).saturating_add(worth(self.round.made(), threads))
     }
 
     /// Whether a wait with so many looks is over.
