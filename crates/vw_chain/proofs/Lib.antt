@@ -1,0 +1,4 @@
+pub mod GateReads
+mod DueEnds
+mod Ways
+mod BackReady

@@ -1,0 +1,7 @@
+mod BusySlots
+mod FullPins
+mod Tallies
+mod Wirings
+mod ShortPlans
+mod PartLines
+mod ChainNets

@@ -1,0 +1,5 @@
+pub mod Waits
+pub mod Findings
+pub mod Counts
+pub mod Report
+pub mod Steps
