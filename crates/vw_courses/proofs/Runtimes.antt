@@ -15,6 +15,7 @@ plain_needs_none (plain.Nets design probes) = refl
 plain_needs_none (plain.Check design board plan probes) = refl
 plain_needs_none (plain.Plan design board chips probes) = refl
 plain_needs_none (plain.Run its) = refl
+plain_needs_none (plain.Report design board plan probes) = refl
 plain_needs_none (plain.Emit design board plan) = refl
 plain_needs_none (plain.Demo size) = refl
 plain_needs_none plain.Help = refl

@@ -25,6 +25,7 @@ use Rattle.vw_plantext.specs.Content.{content_of}
 use Rattle.vw_plantext.specs.Grammar.{spelling}
 use Rattle.vw_prog.specs.declared.word.Word.{Word}
 use Rattle.vw_emit_text.specs.Emitted.{emitted_text}
+use Rattle.vw_report.specs.Report.{report_of}
 use Rattle.vw_resume.specs.declared.state.State.{State}
 use Rattle.vw_resume.specs.States.{state_text}
 use Rattle.vw_resume.specs.Resumed.{resumed_trace}
@@ -43,7 +44,7 @@ use Rattle.vw_courses.specs.Demo.{board_name, design_name, generated, stimulus_n
 use Rattle.vw_gen.specs.Summary.{summary}
 use Rattle.vw_courses.specs.Messages.{vocabulary, CallWork}
 use Rattle.vw_courses.specs.MayPlan.{PlanBy, made_here, of_file, for_chips, by_file, by_chips}
-use Rattle.vw_courses.specs.Kinds.{design_kind, netlist_kind, named_kind, rows_kind, IsBadAgain, board_kind, plan_kind, chips_kind, soundness, planning, planning_for, emission, state_kind, clocks_fit}
+use Rattle.vw_courses.specs.Kinds.{design_kind, netlist_kind, named_kind, rows_kind, IsBadAgain, board_kind, plan_kind, chips_kind, soundness, planning, planning_for, reporting, emission, state_kind, clocks_fit}
 
 -- ---- traces
 
@@ -216,6 +217,18 @@ plan_rest ordered board plan = writes (text_of_plan plan)
 abbrev pub plan_course : List ProbeWord → List ℕ → List ℕ → PlanBy → Course vocabulary
 plan_course probes design board by = ready_course probes design board by plan_rest
 
+-- ---- report
+
+-- what is found out of a plan is written, with these names of the nets
+abbrev pub report_rest : List ProbeWord → Rest
+report_rest names ordered board plan =
+    made (reporting (planned_board ordered board plan)) (λ found. writes (report_of (planned_board ordered board plan) names found))
+
+-- the design first, with its names
+abbrev pub report_course : List ProbeWord → List ℕ → List ℕ → PlanBy → Course vocabulary
+report_course probes design board by =
+    stage (named_kind probes) design (λ named. on_board_course board by (report_rest named.nets) named.ordered)
+
 -- ---- emit
 
 -- the planned board is written as a design, where this is within the limits of designs
@@ -309,6 +322,7 @@ course_of (words.grade design stimulus workers unknown) = grade_course design st
 course_of (words.nets design probes) = nets_course probes design
 course_of (words.save design board stimulus given workers unknown) = save_course design board (by_file given) stimulus workers unknown
 course_of (words.resume design board state stimulus given workers) = resume_course design board (by_file given) state stimulus workers
+course_of (words.report design board given probes) = report_course probes design board (by_file given)
 course_of (words.emit design board given) = emit_course design board (by_file given)
 course_of words.help = writes help_text
 course_of words.version = writes version_text

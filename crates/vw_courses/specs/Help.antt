@@ -20,6 +20,8 @@ help_text = lines_text (
     codes "      [probe=NET].." ∷
     codes "  plan DESIGN BOARD           makes a plan, and writes it" ∷
     codes "      [chips=FILE] [probe=NET].." ∷
+    codes "  report DESIGN BOARD         writes a plan in numbers and names, with a bound" ∷
+    codes "      [plan=FILE] [probe=NET].." ∷
     codes "  run DESIGN BOARD STIM       runs a design on a board, and writes its trace" ∷
     codes "      [plan=FILE] [workers=N] [unknown=0|1] [probe=NET].." ∷
     codes "  save DESIGN BOARD STIM      runs a design on a board, and writes its state" ∷

@@ -27,6 +27,8 @@ use Rattle.vw_check.specs.declared.fault.PlanFault.{PlanFault}
 use Rattle.vw_check.specs.Answers.{HasPlace}
 use Rattle.vw_check.specs.Faults.{chips_fault, plan_fault}
 use Rattle.vw_check.proofs.SoundPlans.{faultless, placed_chips}
+use Rattle.vw_report.specs.declared.findings.Findings.{Findings}
+use Rattle.vw_report.specs.Findings.{AreFindings}
 use Rattle.vw_rows.specs.declared.fault.StimFault.{StimFault}
 use Rattle.vw_rows.specs.Stimulus.{stimulus_rows, is_text_fault}
 use Rattle.vw_emit_text.specs.declared.fault.EmitFault.{EmitFault}
@@ -246,6 +248,21 @@ planning ordered board = record {
   };
   Comes = ChipsHaveRoom ordered board;
   sure = λ reason room bad. not-le_of_lt bad.1 room;
+}
+
+-- ---- a planned board in numbers and names
+
+-- something is always found out of a sound plan
+abbrev pub reporting : PlannedBoard → Making vocabulary Findings 0
+reporting planned = record {
+  judged = record {
+    Good = AreFindings planned;
+    Bad = λ reason. ⊥;
+    apart = λ found reason good bad. bad;
+    its_status = λ reason bad. absurd bad;
+  };
+  Comes = Unit {0};
+  sure = λ reason comes bad. bad;
 }
 
 -- ---- a planned board as a design

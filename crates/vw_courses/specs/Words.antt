@@ -19,6 +19,7 @@ pub data Spelled : Type 0 where
   demo : (cells workers : ℕ) → Spelled
   save : (design board stimulus : List ℕ) (given : Option (List ℕ)) (workers : ℕ) (unknown : Bool) → Spelled
   resume : (design board state stimulus : List ℕ) (given : Option (List ℕ)) (workers : ℕ) → Spelled
+  report : (design board : List ℕ) (given : Option (List ℕ)) (probes : List (List ℕ)) → Spelled
   emit : (design board : List ℕ) (given : Option (List ℕ)) → Spelled
   help : Spelled
   version : Spelled
@@ -94,6 +95,11 @@ abbrev pub plan_of : List (List ℕ) → Option Spelled
 plan_of (verb ∷ design ∷ board ∷ settings) = Some (plan design board (name_given chips_setting settings) (probes_given settings))
 plan_of words = None
 
+-- what words of the form of `report` spell
+abbrev pub report_of : List (List ℕ) → Option Spelled
+report_of (verb ∷ design ∷ board ∷ settings) = Some (report design board (name_given plan_setting settings) (probes_given settings))
+report_of words = None
+
 -- what words of the form of `run` spell
 abbrev pub run_of : List (List ℕ) → Option Spelled
 run_of (verb ∷ design ∷ board ∷ stimulus ∷ settings) =
@@ -130,6 +136,7 @@ spelled_as verbs.Grade words = grade_of words
 spelled_as verbs.Nets words = nets_of words
 spelled_as verbs.Check words = check_of words
 spelled_as verbs.Plan words = plan_of words
+spelled_as verbs.Report words = report_of words
 spelled_as verbs.Run words = run_of words
 spelled_as verbs.Save words = save_of words
 spelled_as verbs.Resume words = resume_of words
@@ -162,6 +169,7 @@ commands =
     ∷ record { verb = verbs.Nets; form = form_with (codes "nets") (file ∷ []) (probe_setting ∷ []) }
     ∷ record { verb = verbs.Check; form = form_with (codes "check") (file ∷ file ∷ file ∷ []) (probe_setting ∷ []) }
     ∷ record { verb = verbs.Plan; form = form_with (codes "plan") (file ∷ file ∷ []) (chips_setting ∷ probe_setting ∷ []) }
+    ∷ record { verb = verbs.Report; form = form_with (codes "report") (file ∷ file ∷ []) (plan_setting ∷ probe_setting ∷ []) }
     ∷ record {
       verb = verbs.Run;
       form = form_with (codes "run") (file ∷ file ∷ file ∷ []) (plan_setting ∷ workers_setting ∷ unknown_setting ∷ probe_setting ∷ []);
@@ -199,6 +207,7 @@ needs_runtime (wave design stimulus unknown probes) = false
 needs_runtime (nets design probes) = false
 needs_runtime (check design board given probes) = false
 needs_runtime (plan design board chips probes) = false
+needs_runtime (report design board given probes) = false
 needs_runtime (emit design board given) = false
 needs_runtime help = false
 needs_runtime version = false
@@ -216,6 +225,7 @@ uses_links (grade design stimulus workers unknown) = false
 uses_links (nets design probes) = false
 uses_links (check design board given probes) = false
 uses_links (plan design board chips probes) = false
+uses_links (report design board given probes) = false
 uses_links (emit design board given) = false
 uses_links help = false
 uses_links version = false

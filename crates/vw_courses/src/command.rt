@@ -72,6 +72,15 @@ pub enum PlainCommand<'a> {
         /// The nets that are watched.
         probes: Names<'a>,
     },
+    /// Writes a plan of a design on a board in numbers and names.
+    Report {
+        design: &'a Name,
+        board: &'a Name,
+        /// The name of the plan, where one is given.
+        plan: Option<&'a [u8]>,
+        /// The nets that are watched.
+        probes: Names<'a>,
+    },
     /// Runs a design on a board over a stimulus by one worker, and writes its trace.
     Run(RunWords<'a>),
     /// Writes a planned board as a design.

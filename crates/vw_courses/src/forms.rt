@@ -10,6 +10,7 @@ pub enum Verb {
     Nets,
     Check,
     Plan,
+    Report,
     Run,
     Save,
     Resume,
@@ -102,6 +103,12 @@ const MAKE_PLAN: Form = Form {
     settings: &[CHIPS, PROBE],
 };
 
+/// report DESIGN BOARD [plan=FILE] [probe=NET]..
+const REPORT: Form = Form {
+    places: &[Place::Keyword(b"report"), FILE, FILE],
+    settings: &[PLAN, PROBE],
+};
+
 /// run DESIGN BOARD STIM [plan=FILE] [workers=N] [unknown=0|1] [probe=NET]..
 const RUN: Form = Form {
     places: &[Place::Keyword(b"run"), FILE, FILE, FILE],
@@ -151,7 +158,7 @@ const VERSION: Form = Form {
 };
 
 /// Each command with the form of its words.
-pub const COMMANDS: [Entry<Verb>; 13] = [
+pub const COMMANDS: [Entry<Verb>; 14] = [
     Entry {
         command: Verb::Sim,
         form: SIM,
@@ -175,6 +182,10 @@ pub const COMMANDS: [Entry<Verb>; 13] = [
     Entry {
         command: Verb::Plan,
         form: MAKE_PLAN,
+    },
+    Entry {
+        command: Verb::Report,
+        form: REPORT,
     },
     Entry {
         command: Verb::Run,

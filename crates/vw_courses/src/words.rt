@@ -1,6 +1,6 @@
 ghost use Rattle.std.specs.Prelude.{◌≡◌, ◌≤◌, IfOk, length, map, option_and_then, option_map, take};
 ghost use Rattle.std.specs.Option.{option_map_or};
-ghost use Rattle.vw_courses.specs.Words.{spelled_as, spelled_by, found_verb, sim_of, wave_of, grade_of, nets_of, check_of, plan_of, run_of, save_of, resume_of, emit_of, demo_of, cells_given};
+ghost use Rattle.vw_courses.specs.Words.{spelled_as, spelled_by, found_verb, sim_of, wave_of, grade_of, nets_of, check_of, plan_of, report_of, run_of, save_of, resume_of, emit_of, demo_of, cells_given};
 ghost use Rattle.vw_courses.specs.Words.{plan_setting, demo as spelled_demo, probes_given, run as spelled_run, unknown_given, workers_given};
 ghost use Rattle.vw_courses.specs.declared.forms.TheConstants.{MOST_PROBES};
 ghost use Rattle.vw_courses.specs.Steps.Commands.{command_form, command_view};
@@ -116,6 +116,21 @@ fn plan_of(words: &[Name]) -> Option<Command<'_>>
             design,
             board,
             chips: CHIPS.name(settings),
+            probes: PROBE.names(settings),
+        })),
+        _ => None,
+    }
+}
+
+/// The command that words of the form of `report` spell.
+fn report_of(words: &[Name]) -> Option<Command<'_>>
+    ensures { option_map command_view result ≡ report_of words.now }
+{
+    match words {
+        [_, design, board, settings @ ..] => Some(Command::Plain(PlainCommand::Report {
+            design,
+            board,
+            plan: PLAN.name(settings),
             probes: PROBE.names(settings),
         })),
         _ => None,
@@ -251,6 +266,7 @@ fn spelled_as(verb: Verb, words: &[Name]) -> Option<Command<'_>>
         Verb::Nets => nets_of(words),
         Verb::Check => check_of(words),
         Verb::Plan => plan_of(words),
+        Verb::Report => report_of(words),
         Verb::Run => run_of(words),
         Verb::Save => save_of(words),
         Verb::Resume => resume_of(words),

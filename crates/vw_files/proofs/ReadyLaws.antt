@@ -1,5 +1,5 @@
 -- From a planned board that is ready to run to the course of a command that runs it.
-use Rattle.std.proofs.Common.{◌≡◌, ◌⊎◌, ℕ, List, Result, Ok, Err, sym, ◌∙◌, subst, inr}
+use Rattle.std.proofs.Common.{◌≡◌, ◌⊎◌, ℕ, List, [], Result, Ok, Err, refl, sym, ◌∙◌, subst, inr}
 use Rattle.vw_design.specs.Paths.{Word}
 use Rattle.vw_net.specs.declared.ordered.Ordered.{Ordered}
 use Rattle.vw_outside.specs.Told.{Told, IsTextOf}
@@ -100,6 +100,12 @@ module _ (probes : List Word) (rest : Rest) (before after : SeenOutside vocabula
     ready_rest design board by checked is goes =
         inr (is.d, is.design_of, inr (checked.ordered, is.on.netlist, inr (is.b, is.board_of, inr (checked.board, is.on.board_is, with_plan by checked.ordered checked.board checked.plan is.plan_is goes))))
 
+    -- the same behind a design
+    pub board_rest : (board : List ℕ) (by : PlanBy) (ordered : Ordered) (checked : Checked) → IsOnBoard before.shelf.told board by ordered checked
+        → Comes answer (rest ordered checked.board checked.plan) → Comes answer (on_board_course board by rest ordered)
+    board_rest board by ordered checked is goes =
+        inr (is.b, is.board_of, inr (checked.board, is.board_is, with_plan by ordered checked.board checked.plan is.plan goes))
+
   module _ (unfinished : Unfinished File Reason) where
     abbrev Ends : Course vocabulary → Type 0
     Ends = EndsIn vocabulary before after unfinished
@@ -123,35 +129,94 @@ module _ (probes : List Word) (rest : Rest) (before after : SeenOutside vocabula
         (stage_part vocabulary before after unfinished (netlist_kind probes) design (on_board_course board by cut_there) (on_board_course board by rest)
         (λ ordered. stage_part vocabulary before after unfinished board_kind board (λ on. plan_then by ordered on (cut_there ordered on)) (λ on. plan_then by ordered on (rest ordered on)) (plan_part by ordered)) ends)
 
+    pub board_ends : (board : List ℕ) (by : PlanBy) (ordered : Ordered) → Ends (on_board_course board by cut_there ordered) → Ends (on_board_course board by rest ordered)
+    board_ends board by ordered ends = part_ends vocabulary before after unfinished board_kind board (λ on. plan_then by ordered on (rest ordered on))
+        (stage_part vocabulary before after unfinished board_kind board (λ on. plan_then by ordered on (cut_there ordered on)) (λ on. plan_then by ordered on (rest ordered on)) (plan_part by ordered) ends)
+
 -- ---- over the shelf and out
 
+-- a part of a course was followed, and something made; then the whole is
 module _ {S O : Type 0} (seen_shelf : S → SeenShelf) (seen_out : O → SeenSink) (Moved : Carried vocabulary.Word → Carried vocabulary.Word → Type 0)
-    (probes : List Word) (rest : Rest) (design board : List ℕ) (by : PlanBy) (before mid : Outside S O) (same : IsSame seen_shelf seen_out before mid) (out : mid.out.now ≡ before.out.now) where
+    (part whole : Course vocabulary) (Made : Checked → Type 0) (before mid : Outside S O) (same : IsSame seen_shelf seen_out before mid) (out : mid.out.now ≡ before.out.now) where
   abbrev Part : Result Checked (Unfinished File Reason) → Type 0
-  Part answer = EndsPart vocabulary (ready_course probes design board by cut_there) (IsReadyBoard probes (seen_shelf before.shelf.now).told design board by) (seen_shelf before.shelf.now) (seen_shelf mid.shelf.now) answer
+  Part answer = EndsPart vocabulary part Made (seen_shelf before.shelf.now) (seen_shelf mid.shelf.now) answer
 
-  pub goes_unready : IsStill vocabulary Moved → (unfinished : Unfinished File Reason) → Part (Err unfinished)
-      → GoesOver seen_shelf seen_out vocabulary Moved (ready_course probes design board by rest) before mid (Err unfinished)
-  goes_unready still unfinished ends = record {
+  abbrev seen : S → O → Carried vocabulary.Word → SeenOutside vocabulary.Word
+  seen shelf own links = seen_outside (seen_shelf shelf) (seen_out own) links
+
+  -- it ended within the part
+  goes_ended : IsStill vocabulary Moved → ((one other : SeenOutside vocabulary.Word) (unfinished : Unfinished File Reason) → EndsIn vocabulary one other unfinished part → EndsIn vocabulary one other unfinished whole)
+      → (unfinished : Unfinished File Reason) → Part (Err unfinished)
+      → GoesOver seen_shelf seen_out vocabulary Moved whole before mid (Err unfinished)
+  goes_ended still also unfinished ends = record {
     same = same;
     leads = record {
       follows = λ links after moved.
-          subst (λ (l : Carried vocabulary.Word). Follows (ready_course probes design board by rest) (seen_outside (seen_shelf before.shelf.now) (seen_out before.out.now) links) (seen_outside (seen_shelf mid.shelf.now) (seen_out mid.out.now) l) (Err unfinished)) (sym (still links after moved))
-          (subst (λ (o : O). Follows (ready_course probes design board by rest) (seen_outside (seen_shelf before.shelf.now) (seen_out before.out.now) links) (seen_outside (seen_shelf mid.shelf.now) (seen_out o) links) (Err unfinished)) (sym out)
-          (ready_ends probes rest (seen_outside (seen_shelf before.shelf.now) (seen_out before.out.now) links) (seen_outside (seen_shelf mid.shelf.now) (seen_out before.out.now) links) unfinished design board by (ends (seen_out before.out.now) links)));
+          subst (λ (l : Carried vocabulary.Word). Follows whole (seen before.shelf.now before.out.now links) (seen mid.shelf.now mid.out.now l) (Err unfinished)) (sym (still links after moved))
+          (subst (λ (o : O). Follows whole (seen before.shelf.now before.out.now links) (seen mid.shelf.now o links) (Err unfinished)) (sym out)
+          (also (seen before.shelf.now before.out.now links) (seen mid.shelf.now before.out.now links) unfinished (ends (seen_out before.out.now) links)));
     };
   }
 
-  pub goes_ready : (checked : Checked) (after : Outside S O) (answer : Answer vocabulary) → Part (Ok checked)
-      → GoesOver seen_shelf seen_out vocabulary Moved (rest checked.ordered checked.board checked.plan) mid after answer
-      → GoesOver seen_shelf seen_out vocabulary Moved (ready_course probes design board by rest) before after answer
-  goes_ready checked after answer (still, is) goes = record {
+  -- or it went on behind it
+  goes_further : (checked : Checked) (after : Outside S O) (answer : Answer vocabulary) (next : Course vocabulary)
+      → ((one other : SeenOutside vocabulary.Word) → one.shelf ≡ seen_shelf before.shelf.now → Follows next one other answer → Follows whole one other answer)
+      → Part (Ok checked) → GoesOver seen_shelf seen_out vocabulary Moved next mid after answer
+      → GoesOver seen_shelf seen_out vocabulary Moved whole before after answer
+  goes_further checked after answer next also (still, is) goes = record {
     same = record { shelf = goes.same.shelf ∙ same.shelf; out = goes.same.out ∙ same.out };
     leads = record {
       follows = λ links links_after moved.
-          ready_rest probes rest (seen_outside (seen_shelf before.shelf.now) (seen_out before.out.now) links) (seen_outside (seen_shelf after.shelf.now) (seen_out after.out.now) links_after) answer design board by checked is
-          (subst (λ (s : SeenShelf). Follows (rest checked.ordered checked.board checked.plan) (seen_outside s (seen_out before.out.now) links) (seen_outside (seen_shelf after.shelf.now) (seen_out after.out.now) links_after) answer) still
-          (subst (λ (o : O). Follows (rest checked.ordered checked.board checked.plan) (seen_outside (seen_shelf mid.shelf.now) (seen_out o) links) (seen_outside (seen_shelf after.shelf.now) (seen_out after.out.now) links_after) answer) out
+          also (seen before.shelf.now before.out.now links) (seen after.shelf.now after.out.now links_after) refl
+          (subst (λ (s : SeenShelf). Follows next (seen_outside s (seen_out before.out.now) links) (seen after.shelf.now after.out.now links_after) answer) still
+          (subst (λ (o : O). Follows next (seen mid.shelf.now o links) (seen after.shelf.now after.out.now links_after) answer) out
           (goes.leads.follows links links_after moved)));
     };
   }
+
+module _ {S O : Type 0} (seen_shelf : S → SeenShelf) (seen_out : O → SeenSink) (Moved : Carried vocabulary.Word → Carried vocabulary.Word → Type 0)
+    (probes : List Word) (rest : Rest) (design board : List ℕ) (by : PlanBy) (before mid : Outside S O) (same : IsSame seen_shelf seen_out before mid) (out : mid.out.now ≡ before.out.now) where
+  abbrev its_part : Course vocabulary
+  its_part = ready_course probes design board by cut_there
+
+  abbrev its_course : Course vocabulary
+  its_course = ready_course probes design board by rest
+
+  abbrev Ready : Checked → Type 0
+  Ready = IsReadyBoard probes (seen_shelf before.shelf.now).told design board by
+
+  pub goes_unready : IsStill vocabulary Moved → (unfinished : Unfinished File Reason) → Part seen_shelf seen_out Moved its_part its_course Ready before mid same out (Err unfinished)
+      → GoesOver seen_shelf seen_out vocabulary Moved its_course before mid (Err unfinished)
+  goes_unready still unfinished ends =
+      goes_ended seen_shelf seen_out Moved its_part its_course Ready before mid same out still (λ one other why. ready_ends probes rest one other why design board by) unfinished ends
+
+  pub goes_ready : (checked : Checked) (after : Outside S O) (answer : Answer vocabulary) → Part seen_shelf seen_out Moved its_part its_course Ready before mid same out (Ok checked)
+      → GoesOver seen_shelf seen_out vocabulary Moved (rest checked.ordered checked.board checked.plan) mid after answer
+      → GoesOver seen_shelf seen_out vocabulary Moved its_course before after answer
+  goes_ready checked after answer made goes =
+      goes_further seen_shelf seen_out Moved its_part its_course Ready before mid same out checked after answer (rest checked.ordered checked.board checked.plan)
+      (λ one other shelf follows. ready_rest probes rest one other answer design board by checked (subst (λ (s : SeenShelf). IsReadyBoard probes s.told design board by checked) (sym shelf) made.1) follows) made goes
+
+-- the same behind a design
+module _ {S O : Type 0} (seen_shelf : S → SeenShelf) (seen_out : O → SeenSink) (Moved : Carried vocabulary.Word → Carried vocabulary.Word → Type 0)
+    (rest : Rest) (board : List ℕ) (by : PlanBy) (ordered : Ordered) (before mid : Outside S O) (same : IsSame seen_shelf seen_out before mid) (out : mid.out.now ≡ before.out.now) where
+  abbrev board_part : Course vocabulary
+  board_part = on_board_course board by cut_there ordered
+
+  abbrev board_course : Course vocabulary
+  board_course = on_board_course board by rest ordered
+
+  abbrev OnBoard : Checked → Type 0
+  OnBoard = IsOnBoard (seen_shelf before.shelf.now).told board by ordered
+
+  pub goes_no_board : IsStill vocabulary Moved → (unfinished : Unfinished File Reason) → Part seen_shelf seen_out Moved board_part board_course OnBoard before mid same out (Err unfinished)
+      → GoesOver seen_shelf seen_out vocabulary Moved board_course before mid (Err unfinished)
+  goes_no_board still unfinished ends =
+      goes_ended seen_shelf seen_out Moved board_part board_course OnBoard before mid same out still (λ one other why. board_ends [] rest one other why board by ordered) unfinished ends
+
+  pub goes_on_board : (checked : Checked) (after : Outside S O) (answer : Answer vocabulary) → Part seen_shelf seen_out Moved board_part board_course OnBoard before mid same out (Ok checked)
+      → GoesOver seen_shelf seen_out vocabulary Moved (rest ordered checked.board checked.plan) mid after answer
+      → GoesOver seen_shelf seen_out vocabulary Moved board_course before after answer
+  goes_on_board checked after answer made goes =
+      goes_further seen_shelf seen_out Moved board_part board_course OnBoard before mid same out checked after answer (rest ordered checked.board checked.plan)
+      (λ one other shelf follows. board_rest [] rest one other answer board by ordered checked (subst (λ (s : SeenShelf). IsOnBoard s.told board by ordered checked) (sym shelf) made.1) follows) made goes

@@ -11,4 +11,4 @@ mod ready;
 pub use board_files::{BoardFiles, PlanBy};
 pub use files::{check_rows, read_design, read_named_design, read_state};
 pub use probes::Probes;
-pub use ready::ready_board;
+pub use ready::{ready_board, ready_on_board};

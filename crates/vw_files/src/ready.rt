@@ -81,8 +81,8 @@ fn ready_with_plan<S: Shelf>(
     }
 }
 
-/// Reads the board, and gets a plan on it.
-fn ready_on_board<S: Shelf>(
+/// Reads the board, and gets a plan of a design on it, which is sound.
+pub fn ready_on_board<S: Shelf>(
     alloc: Global,
     ordered: Ordered,
     board: &Name,

@@ -52,6 +52,19 @@ impl NamedNetlist {
         ordered
     }
 
+    /// The netlist with its order, and the names of the nets, without those of the outputs. It takes no memory.
+    pub fn into_parts(self) -> (Ordered, Sequence<Name>)
+        ensures ordered { result.0 ≡ self.ordered }
+        ensures nets { result.1 ≡ self.nets }
+    {
+        let NamedNetlist {
+            ordered,
+            nets,
+            outputs: _,
+        } = self;
+        (ordered, nets)
+    }
+
     /// The netlist with its order.
     pub fn ordered(&self) -> &Ordered
         ensures { result.now ≡ self.now.ordered }

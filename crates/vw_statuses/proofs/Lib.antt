@@ -11,6 +11,7 @@ pub mod OnBoards
 pub mod PieceLaws
 pub mod PlannedLaws
 pub mod PromisedTexts
+pub mod ReportLaws
 pub mod ResumeLaws
 pub mod RunLaws
 pub mod SimLaws

@@ -220,7 +220,7 @@ module _ (probes : List Word) (design board : List ℕ) (by : PlanBy) (call : Ca
   }
 
   -- a plan that comes for one netlist and board of the texts comes for each
-  plan_on : (one : PlanBy) (texts : PlanTexts) → HavePlan probes one texts
+  pub plan_on : (one : PlanBy) (texts : PlanTexts) → HavePlan probes one texts
       → On probes texts (λ ordered on. (other : Ordered) (its : Board) → AreSpelledOn probes texts.design texts.board other its → PlanComes one other its texts.plan)
   plan_on made_here texts have = record {
     ordered = have.ordered;
@@ -250,7 +250,7 @@ module _ (probes : List Word) (design board : List ℕ) (by : PlanBy) (call : Ca
   }
 
   module _ (files : Files vocabulary) (at_design : IsOneOf files (kinds.Design, design)) (at_board : IsOneOf files (kinds.Board, board)) (at_plan : IsAmong files by) where
-    board_opening : (ordered : Ordered) → IsOpening before files (3 ∷ plan_status by ∷ []) {A = Board × Plan} {T = List ℕ × List ℕ} (λ next. on_board_course board by (λ own on plan. next (on, plan)) ordered)
+    pub board_opening : (ordered : Ordered) → IsOpening before files (3 ∷ plan_status by ∷ []) {A = Board × Plan} {T = List ℕ × List ℕ} (λ next. on_board_course board by (λ own on plan. next (on, plan)) ordered)
         (λ x. MayHave before board_kind board x.0 × IsPlanBy before by ordered x.0 x.1) (λ t. (before board ≡ held t.0) × HoldsGiven call by t.1)
         (λ t. ((on : Board) × SpellsBoard t.0 on) × ((on : Board) → SpellsBoard t.0 on → PlanComes by ordered on t.1)) (λ t x. SpellsBoard t.0 x.0 × IsPlanOf by t.1 ordered x.0 x.1)
     board_opening ordered =

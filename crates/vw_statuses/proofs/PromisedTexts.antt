@@ -24,6 +24,7 @@ use Rattle.vw_statuses.proofs.DemoLaws.{demo_table}
 use Rattle.vw_statuses.proofs.EmitLaws.{emit_table}
 use Rattle.vw_statuses.proofs.HeadlineLaw.{headline, writes_over}
 use Rattle.vw_statuses.proofs.NetsLaws.{nets_table}
+use Rattle.vw_statuses.proofs.ReportLaws.{report_ends}
 use Rattle.vw_statuses.proofs.ResumeLaws.{resume_table}
 use Rattle.vw_statuses.proofs.RunLaws.{run_traced}
 use Rattle.vw_statuses.proofs.SimLaws.{grade_table, sim_table}
@@ -100,6 +101,13 @@ promised show (words.resume design board state stimulus given workers) call is s
       rows = done.is.rows;
       are = done.is.are.spells;
       rows_are = done.is.are.rows_are;
+      wrote = ap (λ (o : SeenOutside vocabulary.Word). o.out) done.leaves ∙ ap (λ (w : CallWork). appended call.before.out w.text) done.is.is;
+    }
+promised show (words.report design board given probes) call is status = λ texts are.
+    let done = (report_ends probes design board (by_file given) call is).done texts (hold_texts probes design board (by_file given) call texts are) status in
+    record {
+      text = done.is.text;
+      reports = done.is.reports;
       wrote = ap (λ (o : SeenOutside vocabulary.Word). o.out) done.leaves ∙ ap (λ (w : CallWork). appended call.before.out w.text) done.is.is;
     }
 promised show (words.emit design board given) call is status = λ texts are.

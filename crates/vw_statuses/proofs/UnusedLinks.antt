@@ -13,7 +13,7 @@ use Rattle.vw_batches.specs.Traffic.{scripts_of}
 use Rattle.vw_gen.specs.Summary.{summary}
 use Rattle.vw_courses.specs.Demo.{board_name, design_name, generated, stimulus_name}
 use Rattle.vw_courses.specs.Messages.{vocabulary, Call, CallWork}
-use Rattle.vw_courses.specs.Commands.{Scripts, no_links, IsSomeTrace, trace_course, rows_course, TextOver, over_design_course, netlist_trace, Rest, size_rest, plan_rest, emit_rest, ready_course, over_rows_course, resume_rest, course_of, demo_run}
+use Rattle.vw_courses.specs.Commands.{Scripts, no_links, IsSomeTrace, trace_course, rows_course, TextOver, over_design_course, netlist_trace, Rest, size_rest, plan_rest, emit_rest, ready_course, report_course, over_rows_course, resume_rest, course_of, demo_run}
 use Rattle.vw_courses.specs.MayPlan.{PlanBy, made_here, of_file, for_chips, by_file, by_chips}
 use Rattle.vw_courses.specs.Words.{Spelled, uses_links}
 use Rattle.vw_courses.specs.Words as words
@@ -56,6 +56,11 @@ resume_unused : (state stimulus : List ℕ) (workers : ℕ) → ltb 1 workers �
 resume_unused state stimulus workers few ordered board plan =
     λ t its good s rows fine done fit. trace_unused stimulus ordered.flat.inputs _ _ (λ rows. none_used workers few _) rows
 
+report_unused : (probes : List ProbeWord) (design board : List ℕ) (by : PlanBy) → UsesNoLinks (report_course probes design board by)
+report_unused probes design board made_here = λ d named good b its fine plan is found real. refl
+report_unused probes design board (of_file name) = λ d named good b its fine p plan is done sound found real. refl
+report_unused probes design board (for_chips name) = λ d named good b its fine c chips are plan is found real. refl
+
 course_unused : (spelled : Spelled) → uses_links spelled ≡ false → UsesNoLinks (course_of spelled)
 course_unused (words.sim design stimulus unknown probes) none = design_unused probes design stimulus _
 course_unused (words.wave design stimulus unknown probes) none = design_unused probes design stimulus _
@@ -67,6 +72,7 @@ course_unused (words.run design board stimulus given workers unknown probes) non
 course_unused (words.demo cells workers) none = texts_unused vocabulary (generated cells) (summary cells) (demo_run workers) (over_rows_unused [] design_name board_name made_here stimulus_name (netlist_trace 0 false) workers false none)
 course_unused (words.save design board stimulus given workers unknown) none = over_rows_unused [] design board (by_file given) stimulus _ workers unknown none
 course_unused (words.resume design board state stimulus given workers) none = ready_unused [] design board (by_file given) (resume_rest state stimulus workers) (resume_unused state stimulus workers none)
+course_unused (words.report design board given probes) none = report_unused probes design board (by_file given)
 course_unused (words.emit design board given) none = ready_unused [] design board (by_file given) emit_rest (λ ordered its plan done fits. refl)
 course_unused words.help none = refl
 course_unused words.version none = refl

@@ -20,6 +20,7 @@ use Rattle.vw_statuses.specs.EmittedBoards.{WritesBoard}
 use Rattle.vw_statuses.specs.Headline.{WritesOver, WritesTrace}
 use Rattle.vw_statuses.specs.PlannedStatuses.{PlanTexts, AreSpelled}
 use Rattle.vw_statuses.specs.WrittenStatuses.{plan_text, size_text}
+use Rattle.vw_statuses.specs.ReportStatuses.{ReportsPlan}
 use Rattle.vw_statuses.specs.ResumeStatuses.{AreResumed, Resumption, ResumeTexts, trace_from_state}
 
 -- out has, behind what it had before, the grading of the netlist of one text over the rows of the other
@@ -43,6 +44,12 @@ pub record WritesPlanned (probes : List Word) (by : PlanBy) (text : Ordered → 
   pub plan : Plan
   pub are : AreSpelled probes by texts ordered board plan
   pub wrote : after ≡ appended before (text ordered board plan)
+
+-- the report of such a plan, with the names of the nets
+pub record WritesReport (probes : List Word) (by : PlanBy) (texts : PlanTexts) (before after : SeenSink) : Type 0 where
+  pub text : List ℕ
+  pub reports : ReportsPlan probes by texts text
+  pub wrote : after ≡ appended before text
 
 -- the trace of the netlist of one text, from the state of another on, over the rows of the third
 pub record WritesResumed (texts : ResumeTexts) (s : List ℕ) (before after : SeenSink) : Type 0 where
@@ -72,6 +79,8 @@ Promise (words.save design board stimulus given workers unknown) told before aft
     (d s : List ℕ) → told design ≡ held d → told stimulus ≡ held s → WritesOver [] (saved_of unknown) d s before after
 Promise (words.resume design board state stimulus given workers) told before after =
     (d t s : List ℕ) → told design ≡ held d → told state ≡ held t → told stimulus ≡ held s → WritesResumed (record { design = d; state = t }) s before after
+Promise (words.report design board given probes) told before after =
+    (texts : PlanTexts) → AreHeld told design board (by_file given) texts → WritesReport probes (by_file given) texts before after
 Promise (words.emit design board given) told before after = (texts : PlanTexts) → AreHeld told design board (by_file given) texts → WritesBoard (by_file given) texts before after
 Promise words.help told before after = after ≡ appended before help_text
 Promise words.version told before after = after ≡ appended before version_text

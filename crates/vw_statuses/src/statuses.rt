@@ -6,7 +6,7 @@ ghost use Rattle.vw_design.specs.Paths.{Word};
 ghost use Rattle.vw_course.specs.Endings.{IsCallOf};
 ghost use Rattle.vw_course.specs.Statuses.{Holds, Statuses};
 ghost use Rattle.vw_courses.specs.Words.{Spelled, command_forms, help, spelled_by, uses_links, version};
-ghost use Rattle.vw_courses.specs.Commands.{check_course, course_of, demo_course, emit_course, grade_course, nets_course, plan_course, resume_course, run_course, save_course, saved_of, sim_course, trace_of, usage_course, wave_course, wave_of};
+ghost use Rattle.vw_courses.specs.Commands.{check_course, course_of, demo_course, emit_course, grade_course, nets_course, plan_course, report_course, resume_course, run_course, save_course, saved_of, sim_course, trace_of, usage_course, wave_course, wave_of};
 ghost use Rattle.vw_courses.specs.MayPlan.{PlanBy};
 ghost use Rattle.vw_courses.specs.Messages.{Call};
 ghost use Rattle.vw_statuses.specs.Headline.{Headline, WritesTrace};
@@ -18,6 +18,7 @@ ghost use Rattle.vw_statuses.specs.NetsStatuses.{NetsStatuses};
 ghost use Rattle.vw_statuses.specs.EmittedBoards.{BoardsShow};
 ghost use Rattle.vw_statuses.specs.EmitStatuses.{EmitStatuses};
 ghost use Rattle.vw_statuses.specs.WrittenStatuses.{CheckStatuses, PlanStatuses};
+ghost use Rattle.vw_statuses.specs.ReportStatuses.{ReportStatuses};
 ghost use Rattle.vw_statuses.specs.RunStatuses.{RunStatuses};
 ghost use Rattle.vw_statuses.specs.Pieces.{PiecesJoin};
 ghost use Rattle.vw_statuses.specs.ResumeStatuses.{ResumeStatuses};
@@ -106,6 +107,14 @@ pub fn plan_statuses()
     ensures { (probes : List Word) → length probes ≤ 64 → (design board : List ℕ) (by : PlanBy) (call : Call)
         → IsCallOf (plan_course probes design board by) call
         → PlanStatuses probes design board by call }
+{}
+
+/// What each status of `report` says of its files, with 64 probes at most, whichever way its plan comes (`PlanBy`): after status 0,
+/// out has the report of the plan, with the names of the nets in the design of the text.
+pub fn report_statuses()
+    ensures { (probes : List Word) → length probes ≤ 64 → (design board : List ℕ) (by : PlanBy) (call : Call)
+        → IsCallOf (report_course probes design board by) call
+        → ReportStatuses probes by design board call }
 {}
 
 /// What each status of `run` says of its files, with 64 probes at most, whichever way its plan comes (`PlanBy`): after

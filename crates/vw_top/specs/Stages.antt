@@ -1,10 +1,11 @@
 -- What commands make, and how they end.
-use Rattle.std.specs.Prelude.{◌≡◌, ◌+◌, ◌≤◌, ◌<◌, ℕ, Result, Ok, Err}
+use Rattle.std.specs.Prelude.{◌≡◌, ◌+◌, ◌≤◌, ◌<◌, ℕ, List, Result, Ok, Err}
 use Rattle.vw_course.specs.declared.unfinished.Unfinished.{Unfinished}
 use Rattle.vw_course.specs.declared.unfinished.Unfinished.TheVariants.{ReadFault, WriteFault, NoMemory, Refused}
 use Rattle.vw_plan.specs.PlannedBoard.{PlannedBoard}
 use Rattle.std.specs.Global.{Vec}
 use Rattle.vw_emit_text.specs.Emitted.{FitsDesigns, emitted_text}
+use Rattle.vw_report.specs.Report.{IsReport}
 use Rattle.vw_resume.specs.declared.fault.StateFault.TheVariants.{TooManyClocks}
 use Rattle.vw_rows.specs.declared.limits.TheConstants.{MOST_CLOCKS}
 use Rattle.vw_trace.specs.declared.fault.RunFault.{RunFault}
@@ -18,6 +19,14 @@ use Rattle.vw_courses.specs.declared.vocabulary.Reason.TheVariants as reasons
 pub record IsEmitted (planned : PlannedBoard) (text : Vec ℕ) : Type 0 where
   pub fits : FitsDesigns planned
   pub is : text.items ≡ emitted_text planned
+
+-- the report of the planned board, whose nets have these names
+abbrev pub IsReportText : PlannedBoard → List (List ℕ) → Vec ℕ → Type 0
+IsReportText planned names text = IsReport planned names text.items
+
+-- no reason
+abbrev pub IsNoReason : Reason → Type 0
+IsNoReason reason = ⊥
 
 -- the answer of a command that ran over its stimulus, or that stopped while it did
 abbrev pub run_answer : Result (Unit {0}) RunFault → Result (Unit {0}) (Unfinished File Reason)

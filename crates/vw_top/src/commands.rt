@@ -16,6 +16,7 @@ use crate::grade::grade;
 use crate::help::{help, version};
 use crate::nets::nets;
 use crate::plan::plan;
+use crate::report::write_report;
 use crate::resume::resume;
 use crate::run::{run_by_one, run_by_several};
 use crate::save::save;
@@ -110,6 +111,21 @@ fn carry_out<S: Shelf, O: Sink>(
                 plan: PlanBy::file(words.plan),
             };
             run_by_one(alloc, &files, words.stimulus, words.unknown, outside)
+        }
+        PlainCommand::Report {
+            design,
+            board,
+            plan,
+            probes,
+        } => {
+            let probes = probes_of(alloc, probes)?;
+            let files = BoardFiles {
+                design,
+                probes: Probes { nets: &probes },
+                board,
+                plan: PlanBy::file(plan),
+            };
+            write_report(alloc, &files, outside)
         }
         PlainCommand::Emit {
             design,

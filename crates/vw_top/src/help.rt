@@ -31,6 +31,8 @@ usage: vwires COMMAND FILE.. [SETTING..]\n\
 \x20     [probe=NET]..\n\
 \x20 plan DESIGN BOARD           makes a plan, and writes it\n\
 \x20     [chips=FILE] [probe=NET]..\n\
+\x20 report DESIGN BOARD         writes a plan in numbers and names, with a bound\n\
+\x20     [plan=FILE] [probe=NET]..\n\
 \x20 run DESIGN BOARD STIM       runs a design on a board, and writes its trace\n\
 \x20     [plan=FILE] [workers=N] [unknown=0|1] [probe=NET]..\n\
 \x20 save DESIGN BOARD STIM      runs a design on a board, and writes its state\n\

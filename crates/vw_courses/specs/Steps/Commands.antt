@@ -27,6 +27,7 @@ plain_view (plain.Nets design probes) = words.nets design.now (take MOST_PROBES 
 plain_view (plain.Check design board plan probes) = words.check design.now board.now plan.now (take MOST_PROBES probes)
 plain_view (plain.Plan design board chips probes) = words.plan design.now board.now (option_copied chips) (take MOST_PROBES probes)
 plain_view (plain.Run its) = run_view its 1
+plain_view (plain.Report design board plan probes) = words.report design.now board.now (option_copied plan) (take MOST_PROBES probes)
 plain_view (plain.Emit design board plan) = words.emit design.now board.now (option_copied plan)
 plain_view (plain.Demo size) = words.demo size.cells 1
 plain_view plain.Help = words.help
