@@ -1,4 +1,4 @@
-//! Tests of the commands over boards that run nothing, `check`, `plan` and `emit`: which plans are sound, and why others
+//! Tests of the commands over boards that run nothing, `check`, `plan`, `report` and `emit`: which plans are sound, and why others
 //! aren't.
 #![tactic(auto)]
 
@@ -14,3 +14,5 @@ mod emits;
 mod large;
 #[cfg(test)]
 mod plans;
+#[cfg(test)]
+mod reports;

@@ -8,6 +8,7 @@ use vw_bound::bound;
 use vw_delays::Delays;
 use vw_net::{Cell, Ordered};
 use vw_plan::{Board, Checked};
+use vw_report::report_text;
 use vw_run::compile;
 use vw_short_bound::short_bound;
 
@@ -236,6 +237,17 @@ fn compiled(alloc: Global, count: u32, text: &[u8]) -> Result<Checked, Fail> {
     Ok(compile(alloc, ordered, board).ok().ok_or("no plan")?)
 }
 
+/// Asserts that the chain of a plan's report leads to its period.
+fn chain_sets_period(rt: &impl Abort, alloc: Global, count: u32, text: &[u8]) -> Result<(), Fail> {
+    let checked = compiled(alloc, count, text)?;
+    let period = checked.plan().period();
+    let report = report_text(alloc, &checked, &[])?;
+    let report = str::from_utf8(&report).ok().ok_or("it is ASCII")?;
+    let line = format!(in alloc; "\nchain {period}\n")?;
+    assert!(rt; report.contains(line.as_str()), "{count}: {period}");
+    Ok(())
+}
+
 /// Asserts that a plan has no period below either bound, and that the one for shortest wires is the greater.
 fn keeps_bounds(rt: &impl Abort, alloc: Global, count: u32, text: &[u8]) -> Result<(), Fail> {
     let checked = compiled(alloc, count, text)?;
@@ -259,6 +271,16 @@ fn periods_of_plans_are_not_below_their_bounds(rt: HostRuntime) -> Result<(), Fa
     for count in [1u32, 2, 3, 8, 31, 100, 500] {
         keeps_bounds(&rt, rt.alloc(), count, RING)?;
         keeps_bounds(&rt, rt.alloc(), count, SHORTCUT)?;
+    }
+    Ok(())
+}
+
+/// The same designs: what the chain of a report ends with is what the period waits for.
+#[test]
+fn chains_of_plans_lead_to_their_periods(rt: HostRuntime) -> Result<(), Fail> {
+    for count in [1u32, 2, 3, 8, 31, 100, 500] {
+        chain_sets_period(&rt, rt.alloc(), count, RING)?;
+        chain_sets_period(&rt, rt.alloc(), count, SHORTCUT)?;
     }
     Ok(())
 }
