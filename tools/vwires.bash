@@ -15,7 +15,7 @@ _vwires() {
         ?*) return ;;
     esac
     if [ "$COMP_CWORD" -eq 1 ]; then
-        mapfile -t COMPREPLY < <(compgen -W 'sim wave grade nets check plan run save resume emit demo --help --version' -- "$word")
+        mapfile -t COMPREPLY < <(compgen -W 'sim wave grade nets check plan report run save resume emit demo --help --version' -- "$word")
         return
     fi
     case ${COMP_WORDS[1]} in
@@ -25,6 +25,7 @@ _vwires() {
         nets) settings='probe=' ;;
         check) settings='probe=' ;;
         plan) settings='chips= probe=' ;;
+        report) settings='plan= probe=' ;;
         run) settings='plan= workers= unknown= probe=' ;;
         save) settings='plan= workers= unknown=' ;;
         resume) settings='plan= workers= unknown=' ;;
