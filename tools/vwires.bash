@@ -27,8 +27,8 @@ _vwires() {
         plan) settings='chips= probe=' ;;
         report) settings='plan= probe=' ;;
         run) settings='plan= workers= unknown= probe=' ;;
-        save) settings='plan= workers= unknown=' ;;
-        resume) settings='plan= workers= unknown=' ;;
+        save) settings='plan= workers= unknown= every=' ;;
+        resume) settings='plan= workers= unknown= probe=' ;;
         emit) settings='plan=' ;;
         demo) settings='workers=' ;;
     esac

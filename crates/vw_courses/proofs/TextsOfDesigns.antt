@@ -1,5 +1,5 @@
 -- Texts of netlists as those of their designs.
-use Rattle.std.proofs.Common.{◌≡◌, ℕ, Bool, List, length, sym, subst}
+use Rattle.std.proofs.Common.{◌≡◌, ℕ, Bool, List, Option, Some, None, length, sym, ap, subst}
 use Rattle.std.proofs.Math.Path.{fun_ext}
 use Rattle.vw_net.specs.declared.ordered.Ordered.{Ordered}
 use Rattle.vw_design.specs.Flattened.{IsFlatOf}
@@ -7,7 +7,8 @@ use Rattle.vw_design.specs.Paths.{Word as ProbeWord}
 use Rattle.vw_front.specs.Designs.{WatchedDesign}
 use Rattle.vw_course.specs.Course.{Course}
 use Rattle.vw_courses.specs.Messages.{vocabulary}
-use Rattle.vw_courses.specs.Commands.{trace_of, netlist_trace, saved_of, netlist_state, TextOver, Scripts, rows_course, design_course, netlist_course}
+use Rattle.vw_resume.specs.Saved.{kept_texts}
+use Rattle.vw_courses.specs.Commands.{trace_of, netlist_trace, saved_of, netlist_state, texts_kept, TextOver, Scripts, rows_course, design_course, netlist_course}
 use Rattle.vw_courses.proofs.FlatTraces.{trace_same, saved_same}
 
 -- a text of netlists is that of the designs of which they are
@@ -22,6 +23,17 @@ traces_agree probes unknown watched ordered is counted rows = trace_same unknown
 -- and so are saved states
 pub saved_agree : (probes : List ProbeWord) (unknown : Bool) → IsTextOfDesigns probes (saved_of unknown) (netlist_state unknown)
 saved_agree probes unknown watched ordered is counted rows = saved_same unknown watched ordered is rows
+
+-- with those on the way, too
+kept_agree : (every : Option ℕ) (probes : List ProbeWord) (text : TextOver WatchedDesign) (flat_text : TextOver Ordered) → IsTextOfDesigns probes text flat_text
+    → IsTextOfDesigns probes (texts_kept every text) (texts_kept every flat_text)
+kept_agree None probes text flat_text agree = agree
+kept_agree (Some every) probes text flat_text agree = λ watched ordered is counted rows.
+    ap (λ (its : List (List Bool) → List ℕ). kept_texts every its rows) (fun_ext (agree watched ordered is counted))
+
+pub saves_agree : (every : Option ℕ) (probes : List ProbeWord) (unknown : Bool)
+    → IsTextOfDesigns probes (texts_kept every (saved_of unknown)) (texts_kept every (netlist_state unknown))
+saves_agree every probes unknown = kept_agree every probes (saved_of unknown) (netlist_state unknown) (saved_agree probes unknown)
 
 module _ (F : Course vocabulary → Type 0) (stimulus : List ℕ) (text : TextOver WatchedDesign) (flat_text : TextOver Ordered) (scripts : Scripts) (watched : WatchedDesign) (ordered : Ordered) (is : IsFlatOf watched.design watched.nets ordered.flat)
     (same : (rows : List (List Bool)) → flat_text ordered rows ≡ text watched rows) where

@@ -1,5 +1,5 @@
 -- The course of each command.
-use Rattle.std.specs.Prelude.{◌≡◌, ◌++◌, ℕ, Bool, false, List, [], ◌∷◌, length, codes, Option, None}
+use Rattle.std.specs.Prelude.{◌≡◌, ◌++◌, ℕ, Bool, false, List, [], ◌∷◌, length, codes, Option, Some, None}
 use Rattle.std.specs.List.{All}
 use Rattle.std.specs.Fmt.{decimal}
 use Rattle.vw_net.specs.declared.flat.Flat.{Flat}
@@ -28,11 +28,10 @@ use Rattle.vw_emit_text.specs.Emitted.{emitted_text}
 use Rattle.vw_report.specs.Report.{report_of}
 use Rattle.vw_resume.specs.declared.state.State.{State}
 use Rattle.vw_resume.specs.States.{state_text}
-use Rattle.vw_resume.specs.Resumed.{resumed_trace}
-use Rattle.vw_resume.specs.Saved.{saved_text}
+use Rattle.vw_resume.specs.Saved.{kept_texts, saved_text}
 use Rattle.vw_rows.specs.Trace.{trace_text}
 use Rattle.vw_batches.specs.Traffic.{scripts_of, words_from}
-use Rattle.vw_trace.specs.FlatTrace.{flat_trace}
+use Rattle.vw_trace.specs.FlatTrace.{flat_trace, trace_from}
 use Rattle.vw_vcd.specs.Lines.{wave_text}
 use Rattle.vw_wave.specs.FlatWave.{flat_wave, signal_rows}
 use Rattle.vw_courses.specs.declared.vocabulary.File.TheVariants as files
@@ -274,25 +273,32 @@ saved_of unknown watched rows = state_text (length rows) (path_history watched.d
 abbrev pub netlist_state : Bool → TextOver Ordered
 netlist_state unknown ordered = saved_text unknown ordered.flat
 
-abbrev pub save_course : List ℕ → List ℕ → PlanBy → List ℕ → ℕ → Bool → Course vocabulary
-save_course design board by stimulus workers unknown =
-    over_rows_course [] design board by stimulus (netlist_state unknown) workers unknown
+-- the text of all rows alone; or one behind each so many clocks, each that of the rows before it, and one at the end
+abbrev pub texts_kept : {Thing : Type 0} → Option ℕ → TextOver Thing → TextOver Thing
+texts_kept None text = text
+texts_kept (Some every) text = λ its rows. kept_texts every (text its) rows
+
+abbrev pub save_course : List ℕ → List ℕ → PlanBy → List ℕ → ℕ → Bool → Option ℕ → Course vocabulary
+save_course design board by stimulus workers unknown every =
+    over_rows_course [] design board by stimulus (texts_kept every (netlist_state unknown)) workers unknown
 
 -- ---- resume
 
 -- a planned board goes on from a state, where the clocks of the state and of the rows aren't too many together
-abbrev pub state_course : List ℕ → ℕ → PlannedBoard → State → Course vocabulary
-state_course stimulus workers planned state =
+-- the last so many outputs of its netlist are probes
+abbrev pub state_course : ℕ → List ℕ → ℕ → PlannedBoard → State → Course vocabulary
+state_course count stimulus workers planned state =
     checked_rows_course stimulus planned.ordered.flat.inputs (check_by (clocks_fit state.clock))
-    (resumed_trace planned.ordered.flat state.clock state.latches) (scripts_from workers planned state.clock state.latches)
+    (trace_from count state.clock state.latches planned.ordered.flat) (scripts_from workers planned state.clock state.latches)
 
 -- the state of the design is read before
-abbrev pub resume_rest : List ℕ → List ℕ → ℕ → Rest
-resume_rest state stimulus workers ordered board plan =
-    stage (state_kind (latch_count ordered.flat.cells)) state (state_course stimulus workers (planned_board ordered board plan))
+abbrev pub resume_rest : ℕ → List ℕ → List ℕ → ℕ → Rest
+resume_rest count state stimulus workers ordered board plan =
+    stage (state_kind (latch_count ordered.flat.cells)) state (state_course count stimulus workers (planned_board ordered board plan))
 
-abbrev pub resume_course : List ℕ → List ℕ → PlanBy → List ℕ → List ℕ → ℕ → Course vocabulary
-resume_course design board by state stimulus workers = ready_course [] design board by (resume_rest state stimulus workers)
+abbrev pub resume_course : List ProbeWord → List ℕ → List ℕ → PlanBy → List ℕ → List ℕ → ℕ → Course vocabulary
+resume_course probes design board by state stimulus workers =
+    ready_course probes design board by (resume_rest (length probes) state stimulus workers)
 
 -- ---- demo
 
@@ -320,8 +326,10 @@ course_of (words.demo cells workers) = demo_course cells workers
 course_of (words.wave design stimulus unknown probes) = wave_course probes design stimulus unknown
 course_of (words.grade design stimulus workers unknown) = grade_course design stimulus unknown
 course_of (words.nets design probes) = nets_course probes design
-course_of (words.save design board stimulus given workers unknown) = save_course design board (by_file given) stimulus workers unknown
-course_of (words.resume design board state stimulus given workers) = resume_course design board (by_file given) state stimulus workers
+course_of (words.save design board stimulus given workers unknown every) =
+    save_course design board (by_file given) stimulus workers unknown every
+course_of (words.resume design board state stimulus given workers probes) =
+    resume_course probes design board (by_file given) state stimulus workers
 course_of (words.report design board given probes) = report_course probes design board (by_file given)
 course_of (words.emit design board given) = emit_course design board (by_file given)
 course_of words.help = writes help_text

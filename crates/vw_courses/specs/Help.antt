@@ -25,10 +25,10 @@ help_text = lines_text (
     codes "  run DESIGN BOARD STIM       runs a design on a board, and writes its trace" ∷
     codes "      [plan=FILE] [workers=N] [unknown=0|1] [probe=NET].." ∷
     codes "  save DESIGN BOARD STIM      runs a design on a board, and writes its state" ∷
-    codes "      [plan=FILE] [workers=N] [unknown=0|1]" ∷
+    codes "      [plan=FILE] [workers=N] [unknown=0|1] [every=N]" ∷
     codes "  resume DESIGN BOARD STATE STIM" ∷
     codes "                              goes on from a state, and writes the trace" ∷
-    codes "      [plan=FILE] [workers=N] [unknown=0|1]" ∷
+    codes "      [plan=FILE] [workers=N] [unknown=0|1] [probe=NET].." ∷
     codes "  emit DESIGN BOARD           writes a planned board as a design in BLIF" ∷
     codes "      [plan=FILE]" ∷
     codes "  demo CELLS                  runs a generated design of 1 to 20000 cells on" ∷
@@ -46,6 +46,7 @@ help_text = lines_text (
     codes "  probe=NET      a net that is watched beside the outputs, up to 64 times" ∷
     codes "  plan=FILE      the plan to run by (one is made)" ∷
     codes "  chips=FILE     the chip of each cell, as in a plan (they are chosen)" ∷
+    codes "  every=N        a state for each N clocks, too (only one at the end)" ∷
     codes "  workers=N      how many threads run the chips or grade, 1 to 64 (4)" ∷
     codes "" ∷
     codes "The exit status is 0 where the command was carried out. A design (1), words" ∷

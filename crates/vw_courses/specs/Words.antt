@@ -17,8 +17,8 @@ pub data Spelled : Type 0 where
   plan : (design board : List ℕ) (chips : Option (List ℕ)) (probes : List (List ℕ)) → Spelled
   run : (design board stimulus : List ℕ) (given : Option (List ℕ)) (workers : ℕ) (unknown : Bool) (probes : List (List ℕ)) → Spelled
   demo : (cells workers : ℕ) → Spelled
-  save : (design board stimulus : List ℕ) (given : Option (List ℕ)) (workers : ℕ) (unknown : Bool) → Spelled
-  resume : (design board state stimulus : List ℕ) (given : Option (List ℕ)) (workers : ℕ) → Spelled
+  save : (design board stimulus : List ℕ) (given : Option (List ℕ)) (workers : ℕ) (unknown : Bool) (every : Option ℕ) → Spelled
+  resume : (design board state stimulus : List ℕ) (given : Option (List ℕ)) (workers : ℕ) (probes : List (List ℕ)) → Spelled
   report : (design board : List ℕ) (given : Option (List ℕ)) (probes : List (List ℕ)) → Spelled
   emit : (design board : List ℕ) (given : Option (List ℕ)) → Spelled
   help : Spelled
@@ -47,6 +47,10 @@ chips_setting = record { name = codes "chips"; value = name; times = 1 }
 abbrev pub workers_setting : Setting
 workers_setting = record { name = codes "workers"; value = number 1 64; times = 1 }
 
+-- behind how many clocks a state is kept
+abbrev pub every_setting : Setting
+every_setting = record { name = codes "every"; value = number 1 4294967295; times = 1 }
+
 -- the value of latches that start unknown: 0 where none is given
 abbrev pub unknown_given : List (List ℕ) → Bool
 unknown_given settings = bit_given unknown_setting false settings
@@ -58,6 +62,10 @@ probes_given settings = take 64 (names_given probe_setting settings)
 -- where no word says how many, there are four; the form lets no other number through than 1 to 64
 abbrev pub workers_given : List (List ℕ) → ℕ
 workers_given settings = max 1 (number_given workers_setting 4 settings)
+
+-- where no word says so, no state is kept on the way; the form lets no other number through than 1 to 4294967295
+abbrev pub every_given : List (List ℕ) → Option ℕ
+every_given settings = option_map (λ word. max 1 (number_or_zero word)) (name_given every_setting settings)
 
 -- the number of cells that a word spells: the form lets no other number through than 1 to 20000
 abbrev pub cells_given : List ℕ → ℕ
@@ -109,13 +117,13 @@ run_of words = None
 -- what words of the form of `save` spell
 abbrev pub save_of : List (List ℕ) → Option Spelled
 save_of (verb ∷ design ∷ board ∷ stimulus ∷ settings) =
-    Some (save design board stimulus (name_given plan_setting settings) (workers_given settings) (unknown_given settings))
+    Some (save design board stimulus (name_given plan_setting settings) (workers_given settings) (unknown_given settings) (every_given settings))
 save_of words = None
 
 -- each latch starts as the state has it, so the setting of free latches has no effect
 abbrev pub resume_of : List (List ℕ) → Option Spelled
 resume_of (verb ∷ design ∷ board ∷ state ∷ stimulus ∷ settings) =
-    Some (resume design board state stimulus (name_given plan_setting settings) (workers_given settings))
+    Some (resume design board state stimulus (name_given plan_setting settings) (workers_given settings) (probes_given settings))
 resume_of words = None
 
 -- what words of the form of `emit` spell
@@ -174,8 +182,14 @@ commands =
       verb = verbs.Run;
       form = form_with (codes "run") (file ∷ file ∷ file ∷ []) (plan_setting ∷ workers_setting ∷ unknown_setting ∷ probe_setting ∷ []);
     }
-    ∷ record { verb = verbs.Save; form = form_with (codes "save") (file ∷ file ∷ file ∷ []) (plan_setting ∷ workers_setting ∷ unknown_setting ∷ []) }
-    ∷ record { verb = verbs.Resume; form = form_with (codes "resume") (file ∷ file ∷ file ∷ file ∷ []) (plan_setting ∷ workers_setting ∷ unknown_setting ∷ []) }
+    ∷ record {
+      verb = verbs.Save;
+      form = form_with (codes "save") (file ∷ file ∷ file ∷ []) (plan_setting ∷ workers_setting ∷ unknown_setting ∷ every_setting ∷ []);
+    }
+    ∷ record {
+      verb = verbs.Resume;
+      form = form_with (codes "resume") (file ∷ file ∷ file ∷ file ∷ []) (plan_setting ∷ workers_setting ∷ unknown_setting ∷ probe_setting ∷ []);
+    }
     ∷ record { verb = verbs.Emit; form = form_with (codes "emit") (file ∷ file ∷ []) (plan_setting ∷ []) }
     ∷ record { verb = verbs.Demo; form = form_with (codes "demo") (any (number 1 20000) ∷ []) (workers_setting ∷ []) }
     ∷ record { verb = verbs.Help; form = form_with (codes "--help") [] [] }
@@ -200,8 +214,8 @@ abbrev pub needs_runtime : Spelled → Bool
 needs_runtime (run design board stimulus given workers unknown probes) = ltb 1 workers
 needs_runtime (demo cells workers) = ltb 1 workers
 needs_runtime (grade design stimulus workers unknown) = true
-needs_runtime (save design board stimulus given workers unknown) = true
-needs_runtime (resume design board state stimulus given workers) = true
+needs_runtime (save design board stimulus given workers unknown every) = true
+needs_runtime (resume design board state stimulus given workers probes) = true
 needs_runtime (sim design stimulus unknown probes) = false
 needs_runtime (wave design stimulus unknown probes) = false
 needs_runtime (nets design probes) = false
@@ -217,8 +231,8 @@ needs_runtime (nothing place) = false
 abbrev pub uses_links : Spelled → Bool
 uses_links (run design board stimulus given workers unknown probes) = ltb 1 workers
 uses_links (demo cells workers) = ltb 1 workers
-uses_links (save design board stimulus given workers unknown) = ltb 1 workers
-uses_links (resume design board state stimulus given workers) = ltb 1 workers
+uses_links (save design board stimulus given workers unknown every) = ltb 1 workers
+uses_links (resume design board state stimulus given workers probes) = ltb 1 workers
 uses_links (sim design stimulus unknown probes) = false
 uses_links (wave design stimulus unknown probes) = false
 uses_links (grade design stimulus workers unknown) = false

@@ -13,6 +13,14 @@ pub struct Several {
     ghost several: { 1 < workers },
 }
 
+/// A number of clocks, behind each of which a state is kept.
+#[derive(Clone, Copy)]
+pub struct Interval {
+    /// How many they are.
+    pub clocks: u64,
+    ghost some: { 0 < clocks },
+}
+
 /// The files and settings of a run but for its workers.
 #[derive(Drop)]
 pub struct RunWords<'a> {
@@ -118,7 +126,7 @@ pub enum RuntimeCommand<'a> {
         /// Those that run the nodes of the board.
         several: Several,
     },
-    /// Runs a design on a board over a stimulus, and writes the state that it comes to.
+    /// Runs a design on a board over a stimulus, and writes the state that it comes to, and those behind each so many clocks.
     Save {
         design: &'a Name,
         board: &'a Name,
@@ -129,6 +137,8 @@ pub enum RuntimeCommand<'a> {
         workers: u64,
         /// The value that free latches start at.
         unknown: bool,
+        /// Behind how many clocks a state is written, where this is given.
+        every: Option<Interval>,
     },
     /// Runs a design on a board over a stimulus from a state on, and writes its trace. Each latch starts as the state has
     /// it.
@@ -141,6 +151,8 @@ pub enum RuntimeCommand<'a> {
         plan: Option<&'a [u8]>,
         /// How many workers run the nodes of the board.
         workers: u64,
+        /// The nets that are watched.
+        probes: Names<'a>,
     },
     /// Runs a generated design on a generated board by several workers, and writes a summary of its trace.
     Demo {

@@ -61,6 +61,16 @@ pub const WORKERS: Setting = Setting {
     times: 1,
 };
 
+/// Behind how many clocks a state is kept.
+pub const EVERY: Setting = Setting {
+    name: b"every",
+    value: Value::Number {
+        least: 1,
+        most: 4_294_967_295,
+    },
+    times: 1,
+};
+
 /// How many do where none are given.
 pub const DEFAULT_WORKERS: u64 = 4;
 
@@ -115,16 +125,16 @@ const RUN: Form = Form {
     settings: &[PLAN, WORKERS, UNKNOWN, PROBE],
 };
 
-/// save DESIGN BOARD STIM [plan=FILE] [workers=N] [unknown=0|1]
+/// save DESIGN BOARD STIM [plan=FILE] [workers=N] [unknown=0|1] [every=N]
 const SAVE: Form = Form {
     places: &[Place::Keyword(b"save"), FILE, FILE, FILE],
-    settings: &[PLAN, WORKERS, UNKNOWN],
+    settings: &[PLAN, WORKERS, UNKNOWN, EVERY],
 };
 
-/// resume DESIGN BOARD STATE STIM [plan=FILE] [workers=N] [unknown=0|1]
+/// resume DESIGN BOARD STATE STIM [plan=FILE] [workers=N] [unknown=0|1] [probe=NET]..
 const RESUME: Form = Form {
     places: &[Place::Keyword(b"resume"), FILE, FILE, FILE, FILE],
-    settings: &[PLAN, WORKERS, UNKNOWN],
+    settings: &[PLAN, WORKERS, UNKNOWN, PROBE],
 };
 
 /// emit DESIGN BOARD [plan=FILE]

@@ -1,18 +1,20 @@
 ghost use Rattle.std.specs.Prelude.{◌≡◌, ◌≤◌, IfOk, length, map, option_and_then, option_map, take};
 ghost use Rattle.std.specs.Option.{option_map_or};
 ghost use Rattle.vw_courses.specs.Words.{spelled_as, spelled_by, found_verb, sim_of, wave_of, grade_of, nets_of, check_of, plan_of, report_of, run_of, save_of, resume_of, emit_of, demo_of, cells_given};
-ghost use Rattle.vw_courses.specs.Words.{plan_setting, demo as spelled_demo, probes_given, run as spelled_run, unknown_given, workers_given};
+ghost use Rattle.vw_courses.specs.Words.{plan_setting, demo as spelled_demo, probes_given, run as spelled_run, every_given, unknown_given, workers_given};
 ghost use Rattle.vw_courses.specs.declared.forms.TheConstants.{MOST_PROBES};
 ghost use Rattle.vw_courses.specs.Steps.Commands.{command_form, command_view};
 ghost use Rattle.vw_words.specs.Values.{name_given};
 
-use crate::command::{Command, PlainCommand, RunWords, RuntimeCommand, Several};
+use crate::command::{Command, Interval, PlainCommand, RunWords, RuntimeCommand, Several};
 use crate::forms::{
-    CHIPS, COMMANDS, DEFAULT_WORKERS, MOST_CELLS, MOST_PROBES, PLAN, PROBE, UNKNOWN, Verb, WORKERS,
+    CHIPS, COMMANDS, DEFAULT_WORKERS, EVERY, MOST_CELLS, MOST_PROBES, PLAN, PROBE, UNKNOWN, Verb,
+    WORKERS,
 };
 use crate::size::Size;
 use std::alloc::{AllocError, Global};
 use vw_outside::Name;
+use vw_text::number_in;
 use vw_words::{Entry, Names, first_wrong, number_or_zero};
 
 /// How many workers the settings ask for. The form of the words lets no other number through than 1 to 64.
@@ -31,6 +33,19 @@ fn several_in(settings: &[Name]) -> Option<Several>
         Some(Several { workers })
     } else {
         None
+    }
+}
+
+/// Behind how many clocks the settings keep a state. The form of the words lets no other number through than 1 to
+/// 4,294,967,295.
+fn every_in(settings: &[Name]) -> Option<Interval>
+    ensures { option_map (λ interval. interval.clocks) result ≡ every_given settings.now }
+{
+    match EVERY.name(settings) {
+        Some(value) => Some(Interval {
+            clocks: number_in(value).unwrap_or(0).max(1),
+        }),
+        None => None,
     }
 }
 
@@ -187,6 +202,7 @@ fn save_of(words: &[Name]) -> Option<Command<'_>>
                 plan: PLAN.name(settings),
                 workers: workers_in(settings),
                 unknown: UNKNOWN.bit(settings, false),
+                every: every_in(settings),
             }))
         }
         _ => None,
@@ -206,6 +222,7 @@ fn resume_of(words: &[Name]) -> Option<Command<'_>>
                 stimulus,
                 plan: PLAN.name(settings),
                 workers: workers_in(settings),
+                probes: PROBE.names(settings),
             }))
         }
         _ => None,

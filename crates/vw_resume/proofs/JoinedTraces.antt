@@ -5,16 +5,15 @@ use Rattle.vw_net.specs.Cells.{latch_count, start_values}
 use Rattle.vw_net.specs.History.{History, flat_history, joined, state_after}
 use Rattle.vw_net.proofs.Counts.{length-outputs_of, length-states_of}
 use Rattle.vw_rows.specs.Trace.{trace_text_from}
-use Rattle.vw_trace.specs.FlatTrace.{flat_trace}
+use Rattle.vw_trace.specs.FlatTrace.{flat_trace, trace_from}
 use Rattle.vw_trace.proofs.Streaming.{HistoriesJoin}
 use Rattle.vw_resume.specs.Joined.{HasLines, IsJoined}
-use Rattle.vw_resume.specs.Resumed.{resumed_trace}
 use Rattle.vw_resume.proofs.TraceAsLines.{head_line, clock_lines, clock_lines-append, end_line, trace_has_lines}
 
 -- of two histories, the one behind the other, whose first clock has the number that the first one has come to
-module _ (first outputs latches : ℕ) (one more : History) (same : length one.outputs ≡ length one.states) where
+module _ (first outputs probes latches : ℕ) (one more : History) (same : length one.outputs ≡ length one.states) where
   abbrev head : List ℕ
-  head = head_line outputs latches
+  head = head_line outputs probes latches
 
   abbrev clocks : List (List ℕ)
   clocks = clock_lines first one.outputs one.states
@@ -33,36 +32,36 @@ module _ (first outputs latches : ℕ) (one more : History) (same : length one.o
       (ap₂ (λ (lines : List (List ℕ)) (n : ℕ). lines ++ end_line n more.last ∷ []) (clock_lines-append first one.outputs one.states more.outputs more.states same) count
       ∙ append_assoc clocks (later (length one.outputs)) (last (length one.outputs) ∷ []))
 
-  pub traces_joined : IsJoined (trace_text_from first outputs 0 latches one) (trace_text_from (first + length one.outputs) outputs 0 latches more) (trace_text_from first outputs 0 latches (joined one more))
+  pub traces_joined : IsJoined (trace_text_from first outputs probes latches one) (trace_text_from (first + length one.outputs) outputs probes latches more) (trace_text_from first outputs probes latches (joined one more))
   traces_joined = record {
     front = head ∷ clocks;
     last = end_line (first + length one.outputs) one.last;
     first = head;
     rest = later (length one.outputs) ++ last (length one.outputs) ∷ [];
-    of_one = trace_has_lines first outputs latches one;
-    of_other = trace_has_lines (first + length one.outputs) outputs latches more;
-    of_whole = subst (HasLines (trace_text_from first outputs 0 latches (joined one more))) whole_lines (trace_has_lines first outputs latches (joined one more));
+    of_one = trace_has_lines first outputs probes latches one;
+    of_other = trace_has_lines (first + length one.outputs) outputs probes latches more;
+    of_whole = subst (HasLines (trace_text_from first outputs probes latches (joined one more))) whole_lines (trace_has_lines first outputs probes latches (joined one more));
   }
 
 -- ---- of a netlist
 
-module _ (flat : Flat) (join : HistoriesJoin flat) where
+module _ (probes : ℕ) (flat : Flat) (join : HistoriesJoin flat) where
   pub joined_from_state : (clock : ℕ) (state : List Bool) (rows more : List (List Bool))
-      → IsJoined (resumed_trace flat clock state rows) (resumed_trace flat (clock + length rows) (state_after flat state rows) more) (resumed_trace flat clock state (rows ++ more))
+      → IsJoined (trace_from probes clock state flat rows) (trace_from probes (clock + length rows) (state_after flat state rows) flat more) (trace_from probes clock state flat (rows ++ more))
   joined_from_state clock state rows more =
       let one = flat_history flat state rows in
       let behind = flat_history flat (state_after flat state rows) more in
       let count : length one.outputs ≡ length rows = length-outputs_of flat state rows in
       let same : length one.outputs ≡ length one.states = count ∙ sym (length-states_of flat state rows) in
-      let trace : History → List ℕ = λ history. trace_text_from clock (length flat.outputs - 0) 0 (latch_count flat.cells) history in
-      subst (λ (history : History). IsJoined (resumed_trace flat clock state rows) (resumed_trace flat (clock + length rows) (state_after flat state rows) more) (trace history)) (sym (join state rows more))
-      (subst (λ (n : ℕ). IsJoined (resumed_trace flat clock state rows) (resumed_trace flat (clock + n) (state_after flat state rows) more) (trace (joined one behind))) count
-      (traces_joined clock (length flat.outputs - 0) (latch_count flat.cells) one behind same))
+      let trace : History → List ℕ = λ history. trace_text_from clock (length flat.outputs - probes) probes (latch_count flat.cells) history in
+      subst (λ (history : History). IsJoined (trace_from probes clock state flat rows) (trace_from probes (clock + length rows) (state_after flat state rows) flat more) (trace history)) (sym (join state rows more))
+      (subst (λ (n : ℕ). IsJoined (trace_from probes clock state flat rows) (trace_from probes (clock + n) (state_after flat state rows) flat more) (trace (joined one behind))) count
+      (traces_joined clock (length flat.outputs - probes) probes (latch_count flat.cells) one behind same))
 
   pub joined_from_start : (unknown : Bool) (rows more : List (List Bool))
-      → IsJoined (flat_trace 0 unknown flat rows) (resumed_trace flat (length rows) (state_after flat (start_values unknown flat.cells) rows) more) (flat_trace 0 unknown flat (rows ++ more))
+      → IsJoined (flat_trace probes unknown flat rows) (trace_from probes (length rows) (state_after flat (start_values unknown flat.cells) rows) flat more) (flat_trace probes unknown flat (rows ++ more))
   joined_from_start unknown rows more =
       let start = start_values unknown flat.cells in
       let count : 0 + length rows ≡ length rows = omega arith in
-      subst (λ (n : ℕ). IsJoined (flat_trace 0 unknown flat rows) (resumed_trace flat n (state_after flat start rows) more) (flat_trace 0 unknown flat (rows ++ more))) count
+      subst (λ (n : ℕ). IsJoined (flat_trace probes unknown flat rows) (trace_from probes n (state_after flat start rows) flat more) (flat_trace probes unknown flat (rows ++ more))) count
       (joined_from_state 0 start rows more)

@@ -3,3 +3,4 @@ pub mod ReadBack
 pub mod TraceAsLines
 pub mod JoinedTraces
 pub mod SavedStates
+pub mod KeptStates

@@ -1,5 +1,5 @@
 -- A trace as lines.
-use Rattle.std.proofs.Common.{◌≡◌, ◌+◌, ℕ, Bool, false, List, [], ◌∷◌, ◌++◌, length, refl, sym, ◌∙◌, ap, ap₂, append_assoc, append-nil, arith}
+use Rattle.std.proofs.Common.{◌≡◌, ◌+◌, ◌==◌, ℕ, Bool, true, false, if◌then◌else◌, List, [], ◌∷◌, ◌++◌, length, refl, sym, ◌∙◌, ap, ap₂, append_assoc, append-nil, arith}
 use Rattle.std.specs.Prelude.{codes}
 use Rattle.std.specs.Fmt.{decimal}
 use Rattle.std.specs.List.{AllByRecursion, list_any}
@@ -13,13 +13,19 @@ use Rattle.vw_text.proofs.FirstLine.{ends_line, line_first}
 use Rattle.vw_text.proofs.FoundBytes.{HasNo}
 use Rattle.vw_text.proofs.LineTexts.{lines_text-append}
 use Rattle.vw_text.specs.Printed.{bits_text}
-use Rattle.vw_rows.specs.Trace.{rows_text, trace_lines_from, trace_text_from}
+use Rattle.vw_rows.specs.Trace.{head_text, rows_text, trace_lines_from, trace_text_from}
 use Rattle.vw_resume.specs.Joined.{HasLines}
 
 -- ---- the lines
 
-abbrev pub head_line : ℕ → ℕ → List ℕ
-head_line outputs latches = codes "trace 1 " ++ decimal outputs ++ 32 ∷ decimal latches
+abbrev plain_head : ℕ → ℕ → List ℕ
+plain_head outputs latches = codes "trace 1 " ++ decimal outputs ++ 32 ∷ decimal latches
+
+abbrev watched_head : ℕ → ℕ → ℕ → List ℕ
+watched_head outputs probes latches = codes "trace 2 " ++ decimal outputs ++ 32 ∷ decimal probes ++ 32 ∷ decimal latches
+
+abbrev pub head_line : ℕ → ℕ → ℕ → List ℕ
+head_line outputs probes latches = if probes == 0 then plain_head outputs latches else watched_head outputs probes latches
 
 abbrev clock_line : ℕ → List Bool → List Bool → List ℕ
 clock_line clock outputs latches = decimal clock ++ 32 ∷ bits_text outputs ++ 32 ∷ bits_text latches
@@ -72,11 +78,33 @@ bits_whole : (bits : List Bool) → IsWhole (bits_text bits)
 bits_whole [] = tried (45 ∷ []) refl
 bits_whole (bit ∷ bits) = shown_has_no ends_line refl refl (bit ∷ bits)
 
-head_whole : (outputs latches : ℕ) → IsWhole (head_line outputs latches)
-head_whole outputs latches =
+plain_whole : (outputs latches : ℕ) → IsWhole (plain_head outputs latches)
+plain_whole outputs latches =
     both (codes "trace 1 " ++ decimal outputs) (32 ∷ decimal latches)
     (both (codes "trace 1 ") (decimal outputs) (tried (codes "trace 1 ") refl) (number_whole outputs))
     (spaced (decimal latches) (number_whole latches))
+
+watched_whole : (outputs probes latches : ℕ) → IsWhole (watched_head outputs probes latches)
+watched_whole outputs probes latches =
+    both (codes "trace 2 " ++ decimal outputs ++ 32 ∷ decimal probes) (32 ∷ decimal latches)
+    (both (codes "trace 2 " ++ decimal outputs) (32 ∷ decimal probes)
+    (both (codes "trace 2 ") (decimal outputs) (tried (codes "trace 2 ") refl) (number_whole outputs))
+    (spaced (decimal probes) (number_whole probes)))
+    (spaced (decimal latches) (number_whole latches))
+
+head_whole : (outputs probes latches : ℕ) → IsWhole (head_line outputs probes latches)
+head_whole outputs probes latches = by (probes == 0) where
+  by : (none : Bool) → IsWhole (if none then plain_head outputs latches else watched_head outputs probes latches)
+  by true = plain_whole outputs latches
+  by false = watched_whole outputs probes latches
+
+-- the first line, with its end
+head_ended : (outputs probes latches : ℕ) → head_text outputs probes latches ≡ head_line outputs probes latches ++ 10 ∷ []
+head_ended outputs probes latches = by (probes == 0) where
+  by : (none : Bool) → (if none then codes "trace 1 " ++ decimal outputs ++ 32 ∷ decimal latches ++ 10 ∷ [] else codes "trace 2 " ++ decimal outputs ++ 32 ∷ decimal probes ++ 32 ∷ decimal latches ++ 10 ∷ [])
+      ≡ (if none then plain_head outputs latches else watched_head outputs probes latches) ++ 10 ∷ []
+  by true = refl
+  by false = refl
 
 clock_whole : (clock : ℕ) (outputs latches : List Bool) → IsWhole (clock_line clock outputs latches)
 clock_whole clock outputs latches =
@@ -120,15 +148,15 @@ behind_head_joined first history =
     ap₂ (λ (front rest : List ℕ). front ++ rest) (clocks_joined first history.outputs history.states) (sym (append-nil (last ++ 10 ∷ [])))
     ∙ sym (lines_text-append clocks (last ∷ []))
 
--- the lines of a trace without probes
-pub trace_has_lines : (first outputs latches : ℕ) (history : History) → HasLines (trace_text_from first outputs 0 latches history)
-    (head_line outputs latches ∷ (clock_lines first history.outputs history.states ++ end_line (first + length history.outputs) history.last ∷ []))
-trace_has_lines first outputs latches history =
-    let head = head_line outputs latches in
+-- the lines of a trace
+pub trace_has_lines : (first outputs probes latches : ℕ) (history : History) → HasLines (trace_text_from first outputs probes latches history)
+    (head_line outputs probes latches ∷ (clock_lines first history.outputs history.states ++ end_line (first + length history.outputs) history.last ∷ []))
+trace_has_lines first outputs probes latches history =
+    let head = head_line outputs probes latches in
     let rest = clock_lines first history.outputs history.states ++ end_line (first + length history.outputs) history.last ∷ [] in
-    let is : trace_text_from first outputs 0 latches history ≡ lines_text (head ∷ rest) =
-    ap (λ (text : List ℕ). (head ++ 10 ∷ []) ++ text) (behind_head_joined first history) in
+    let is : trace_text_from first outputs probes latches history ≡ lines_text (head ∷ rest) =
+    ap₂ (λ (front text : List ℕ). front ++ text) (head_ended outputs probes latches) (behind_head_joined first history) in
     record {
       joined = is;
-      apart = ap text_lines is ∙ lines_again (head ∷ rest) (head_whole outputs latches, behind_head_whole first (first + length history.outputs) history.outputs history.states history.last);
+      apart = ap text_lines is ∙ lines_again (head ∷ rest) (head_whole outputs probes latches, behind_head_whole first (first + length history.outputs) history.outputs history.states history.last);
     }

@@ -1,5 +1,6 @@
 -- States that are saved. Source: this project.
-use Rattle.std.specs.Prelude.{ℕ, Bool, List, length}
+use Rattle.std.specs.Prelude.{ℕ, ◌-◌, ◌%◌, ◌==◌, Bool, List, [], ◌∷◌, ◌++◌, length, take}
+use Rattle.std.specs.List.{filter, flat_map, range_with_len}
 use Rattle.vw_net.specs.declared.flat.Flat.{Flat}
 use Rattle.vw_net.specs.Cells.{start_values}
 use Rattle.vw_net.specs.History.{state_after}
@@ -8,3 +9,13 @@ use Rattle.vw_resume.specs.States.{state_text}
 -- the state of a netlist after some rows, from the start values on, where free latches start at `unknown`
 abbrev pub saved_text : Bool → Flat → List (List Bool) → List ℕ
 saved_text unknown flat rows = state_text (length rows) (state_after flat (start_values unknown flat.cells) rows)
+
+-- ---- on the way
+
+-- of a run of so many clocks, how many are worked out where a state is kept: each multiple of `every` before the end, and all
+abbrev pub kept_clocks : ℕ → ℕ → List ℕ
+kept_clocks every all = filter (λ clock. clock % every == 0) (range_with_len 1 (all - 1)) ++ all ∷ []
+
+-- a text of the first rows for each of these, where `text` is that of any rows
+abbrev pub kept_texts : ℕ → (List (List Bool) → List ℕ) → List (List Bool) → List ℕ
+kept_texts every text rows = flat_map (λ clock. text (take clock rows)) (kept_clocks every (length rows))

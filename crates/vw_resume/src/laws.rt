@@ -4,7 +4,7 @@ ghost use Rattle.vw_net.specs.declared.flat.Flat.{Flat};
 ghost use Rattle.vw_net.specs.Cells.{start_values};
 ghost use Rattle.vw_net.specs.History.{state_after};
 ghost use Rattle.vw_rows.specs.declared.limits.TheConstants.{MOST_CLOCKS};
-ghost use Rattle.vw_trace.specs.FlatTrace.{flat_trace};
+ghost use Rattle.vw_trace.specs.FlatTrace.{flat_trace, trace_from};
 ghost use Rattle.vw_resume.specs.declared.fault.StateFault.{StateFault};
 ghost use Rattle.vw_resume.specs.declared.limits.TheConstants.{LONGEST_STATE};
 ghost use Rattle.vw_resume.specs.declared.state.State.{State};
@@ -43,7 +43,8 @@ pub fn saved_texts_spell_states()
 {}
 
 /// The trace over some rows and then more is the trace over the first without its last line, followed by the trace that goes
-/// on from the state after them without its first line. So it is from any state on, and from the start values.
+/// on from the state after them without its first line. So it is from any state on, and from the start values, and with any
+/// number of probes.
 pub fn traces_join()
     ensures from_a_state { (flat : Flat) (clock : ℕ) (latches : List Bool) (rows more : List (List Bool))
         → IsJoined (resumed_trace flat clock latches rows)
@@ -53,6 +54,14 @@ pub fn traces_join()
         → IsJoined (flat_trace 0 unknown flat rows)
         (resumed_trace flat (length rows) (state_after flat (start_values unknown flat.cells) rows) more)
         (flat_trace 0 unknown flat (rows ++ more)) }
+    ensures with_probes { (probes : ℕ) (flat : Flat) (clock : ℕ) (latches : List Bool) (rows more : List (List Bool))
+        → IsJoined (trace_from probes clock latches flat rows)
+        (trace_from probes (clock + length rows) (state_after flat latches rows) flat more)
+        (trace_from probes clock latches flat (rows ++ more)) }
+    ensures with_probes_from_the_start { (probes : ℕ) (unknown : Bool) (flat : Flat) (rows more : List (List Bool))
+        → IsJoined (flat_trace probes unknown flat rows)
+        (trace_from probes (length rows) (state_after flat (start_values unknown flat.cells) rows) flat more)
+        (flat_trace probes unknown flat (rows ++ more)) }
 {
     histories_join();
 }

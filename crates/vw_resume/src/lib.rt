@@ -3,6 +3,7 @@
 #![tactic(auto)]
 
 mod fault;
+mod keeping;
 mod laws;
 mod limits;
 mod reading;
@@ -17,7 +18,7 @@ pub use laws::{
     traces_join,
 };
 pub use limits::LONGEST_STATE;
-pub use resuming::run_from;
-pub use saving::save;
+pub use resuming::{run_from, run_watched_from};
+pub use saving::{save, save_every};
 pub use state::State;
 pub use vw_trace::RunFault as ResumeFault;

@@ -52,6 +52,6 @@ impl Recorder for StateRecorder {
     }
 
     fn end(&self, alloc: Global, last: &Bits) -> Result<Vec<u8>, AllocError> {
-        state_text(alloc, self.clocks, last)
+        state_text(alloc, self.clocks, last.as_slice())
     }
 }

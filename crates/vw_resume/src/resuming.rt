@@ -2,6 +2,7 @@
 ghost use Rattle.std.specs.Prelude.{◌≡◌, ◌<◌, ◌≤◌, ◌+◌, ◌^◌, length, IfOk};
 ghost use Rattle.vw_net.specs.Cells.{latch_count};
 ghost use Rattle.vw_plan.specs.PlannedBoard.{planned_board};
+ghost use Rattle.vw_trace.specs.FlatTrace.{trace_from};
 ghost use Rattle.vw_trace.specs.Streamed.{Streams, clocks_left};
 ghost use Rattle.vw_resume.specs.Resumed.{HaveResumed, resumed_trace, without_state};
 
@@ -17,6 +18,52 @@ use vw_plan::Checked;
 use vw_prog::Fabric;
 use vw_rows::Rereading;
 use vw_trace::{Engine, RunFault};
+
+/// Runs a planned design on its board from a state on, over all rows that a stimulus still gives, with the workers
+/// of a floor, and appends the trace of the unpartitioned design from that state on, whose last
+/// `probes` outputs are probes. The clocks are numbered from the state's. It answers the state after the last clock.
+///
+/// The state may come from another board, another plan and another number of workers: only the number of its latches and of
+/// its clocks matter. As in any run, memory is taken for a batch of 256 clocks at a time, each link carries the words of the
+/// plan over these clocks, where there are two workers or more, and it isn't proved that the call returns. Where a read or a
+/// write fails or memory runs out, a front of the trace was appended, and no state is answered.
+pub fn run_watched_from<T: Threads + Wait + Sync, F: Fabric, G: BurstGate, S: Shelf, O: Sink>(
+    alloc: Global,
+    checked: Checked,
+    probes: u32,
+    state: State,
+    floor: &mut Floor<'_, '_, '_, T, F, G>,
+    rows: &mut Rereading<'_, '_, S>,
+    out: &mut O,
+) -> Result<State, RunFault>
+    requires columns { rows.old.stimulus.now.width ≡ checked.ordered.flat.inputs }
+    requires probes { probes ≤ length checked.ordered.flat.outputs }
+    requires latches { length state.latches ≡ latch_count checked.ordered.flat.cells }
+    requires clocks { state.clock + clocks_left rows.old.stimulus.now < 2 ^ 32 }
+    ensures shelf { rows.new.shelf.ghost_name ≡ rows.old.shelf.ghost_name }
+    ensures fabric { floor.new.fabric.ghost_name ≡ floor.old.fabric.ghost_name }
+    ensures streams { let planned = planned_board checked.ordered checked.board checked.plan in
+        Streams (trace_from probes state.clock state.latches checked.ordered.flat)
+        (HaveResumed floor.old.workers planned state.clock state.latches
+        (F.carried floor.old.fabric.now) (F.carried floor.new.fabric.now) result)
+        rows.old rows.new (O.seen out.old) (O.seen out.new) (without_state result) }
+    ensures clock { IfOk result (λ after. after.clock
+        ≡ state.clock + clocks_left rows.old.stimulus.now) }
+    ensures latches { IfOk result (λ after. length after.latches
+        ≡ latch_count checked.ordered.flat.cells) }
+    ensures few_latches { IfOk result (λ after. length after.latches ≤ MOST_CELLS) }
+{
+    let State { clock, latches } = state;
+    // (room for the last values before the first clock, so that no memory can be wanting behind the last)
+    let mut last = latches.as_slice().to_vec(alloc)?;
+    let mut board = RunningBoard::make(alloc, checked, clock, latches)?;
+    write_trace_on(alloc, &mut board, probes, floor, rows, out)?;
+    last.copy_from_slice(board.state().as_slice());
+    Ok(State {
+        clock: board.clock(),
+        latches: Bits::of(last),
+    })
+}
 
 /// Runs a planned design on its board from a state on, over all rows that a stimulus still gives, with the workers
 /// of a floor, and appends the trace of the unpartitioned design from that state on, without probes. The clocks are numbered
@@ -50,14 +97,5 @@ pub fn run_from<T: Threads + Wait + Sync, F: Fabric, G: BurstGate, S: Shelf, O: 
         ≡ latch_count checked.ordered.flat.cells) }
     ensures few_latches { IfOk result (λ after. length after.latches ≤ MOST_CELLS) }
 {
-    let State { clock, latches } = state;
-    // (room for the last values before the first clock, so that no memory can be wanting behind the last)
-    let mut last = latches.as_slice().to_vec(alloc)?;
-    let mut board = RunningBoard::make(alloc, checked, clock, latches)?;
-    write_trace_on(alloc, &mut board, 0, floor, rows, out)?;
-    last.copy_from_slice(board.state().as_slice());
-    Ok(State {
-        clock: board.clock(),
-        latches: Bits::of(last),
-    })
+    run_watched_from(alloc, checked, 0, state, floor, rows, out)
 }

@@ -1,11 +1,12 @@
 //! Runs of a planned design of which the state at their end is kept.
-ghost use Rattle.std.specs.Prelude.{◌≡◌};
+ghost use Rattle.std.specs.Prelude.{◌≡◌, ◌<◌};
 ghost use Rattle.vw_net.specs.Cells.{start_values};
 ghost use Rattle.vw_plan.specs.PlannedBoard.{planned_board};
 ghost use Rattle.vw_trace.specs.Streamed.{StopsSilently, Streams};
 ghost use Rattle.vw_batches.specs.Traffic.{HaveCarried};
-ghost use Rattle.vw_resume.specs.Saved.{saved_text};
+ghost use Rattle.vw_resume.specs.Saved.{kept_texts, saved_text};
 
+use crate::keeping::KeepingRecorder;
 use crate::recorder::StateRecorder;
 use std::alloc::Global;
 use std::marker::Sync;
@@ -46,5 +47,35 @@ pub fn save<T: Threads + Wait + Sync, F: Fabric, G: BurstGate, S: Shelf, O: Sink
 {
     let mut board = RunningBoard::start(alloc, checked, unknown)?;
     let mut recorder = StateRecorder::make(board.flat(), board.state());
+    go_on(alloc, &mut board, floor, rows, &mut recorder, out)
+}
+
+/// Runs a planned design on its board over all rows that a stimulus still gives, with the workers of a floor, and appends
+/// the text of the state behind each `every` clocks, and behind the last clock where none is appended there so. Each is what
+/// `save` appends of so many first rows. Free latches start at `unknown`.
+///
+/// All else is as in `save`, but that texts are written on the way: where the rows can't be read again, or a write fails or
+/// memory runs out, a front of them was appended.
+pub fn save_every<T: Threads + Wait + Sync, F: Fabric, G: BurstGate, S: Shelf, O: Sink>(
+    alloc: Global,
+    checked: Checked,
+    unknown: bool,
+    every: u64,
+    floor: &mut Floor<'_, '_, '_, T, F, G>,
+    rows: &mut Rereading<'_, '_, S>,
+    out: &mut O,
+) -> Result<(), RunFault>
+    requires some { 0 < every }
+    requires columns { rows.old.stimulus.now.width ≡ checked.ordered.flat.inputs }
+    ensures shelf { rows.new.shelf.ghost_name ≡ rows.old.shelf.ghost_name }
+    ensures fabric { floor.new.fabric.ghost_name ≡ floor.old.fabric.ghost_name }
+    ensures streams { let planned = planned_board checked.ordered checked.board checked.plan in
+        Streams (kept_texts every (saved_text unknown checked.ordered.flat))
+        (HaveCarried floor.old.workers planned 0 (start_values unknown checked.ordered.flat.cells)
+        (F.carried floor.old.fabric.now) (F.carried floor.new.fabric.now))
+        rows.old rows.new (O.seen out.old) (O.seen out.new) result }
+{
+    let mut board = RunningBoard::start(alloc, checked, unknown)?;
+    let mut recorder = KeepingRecorder::make(board.flat(), board.state(), every);
     go_on(alloc, &mut board, floor, rows, &mut recorder, out)
 }

@@ -20,12 +20,12 @@ pub struct State {
 }
 
 /// The text of the state with this clock and these latch values. It takes memory for the text.
-pub fn state_text(alloc: Global, clock: u64, latches: &Bits) -> Result<Vec<u8>, AllocError>
+pub fn state_text(alloc: Global, clock: u64, latches: &[bool]) -> Result<Vec<u8>, AllocError>
     ensures { IfOk result (λ text. text.items ≡ state_text clock latches.now) }
 {
     let count = latches.len();
     let mut text = format!(in alloc; "state 1 {clock} {count} ")?.into_bytes();
-    push_bits(&mut text, latches.as_slice())?;
+    push_bits(&mut text, latches)?;
     text.push(b'\n')?;
     Ok(text)
 }
@@ -38,7 +38,7 @@ impl State {
         requires latches { length self.now.latches ≤ MOST_CELLS }
         ensures { IfOk result (λ text. Spells text.items self.now) }
     {
-        state_text(alloc, self.clock, &self.latches)
+        state_text(alloc, self.clock, self.latches.as_slice())
     }
 
     /// Whether a text is the spelling of the state. It takes memory for as long a text.

@@ -12,6 +12,7 @@ use vw_sample_calls::{
 use vw_samples::{TOGGLE, TOGGLE_PLAN, TRIANGLE, spelled};
 
 mod cuts;
+mod kept;
 mod rows;
 mod stops;
 

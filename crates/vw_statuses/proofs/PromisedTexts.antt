@@ -11,11 +11,11 @@ use Rattle.vw_course.proofs.CallTable.{call_table}
 use Rattle.vw_plan.specs.declared.board.Board.{Board}
 use Rattle.vw_plan.specs.declared.plan.Plan.{Plan}
 use Rattle.vw_courses.specs.Messages.{vocabulary, Call, CallWork}
-use Rattle.vw_courses.specs.Commands.{course_of, netlist_state, plan_rest, saved_of, size_rest, trace_of, usage_course, wave_of}
+use Rattle.vw_courses.specs.Commands.{course_of, netlist_state, plan_rest, saved_of, size_rest, texts_kept, trace_of, usage_course, wave_of}
 use Rattle.vw_courses.specs.MayPlan.{PlanBy, made_here, of_file, for_chips, by_file, by_chips}
 use Rattle.vw_courses.specs.Words.{Spelled}
 use Rattle.vw_courses.specs.Words as words
-use Rattle.vw_courses.proofs.TextsOfDesigns.{saved_agree}
+use Rattle.vw_courses.proofs.TextsOfDesigns.{saves_agree}
 use Rattle.vw_statuses.specs.EmittedBoards.{BoardsShow}
 use Rattle.vw_statuses.specs.PlannedStatuses.{PlanTexts, HoldTexts}
 use Rattle.vw_statuses.specs.Promises.{AreHeld, Promise, WritesPlanned}
@@ -25,7 +25,7 @@ use Rattle.vw_statuses.proofs.EmitLaws.{emit_table}
 use Rattle.vw_statuses.proofs.HeadlineLaw.{headline, writes_over}
 use Rattle.vw_statuses.proofs.NetsLaws.{nets_table}
 use Rattle.vw_statuses.proofs.ReportLaws.{report_ends}
-use Rattle.vw_statuses.proofs.ResumeLaws.{resume_table}
+use Rattle.vw_statuses.proofs.ResumeLaws.{resume_traced}
 use Rattle.vw_statuses.proofs.RunLaws.{run_traced}
 use Rattle.vw_statuses.proofs.SimLaws.{grade_table, sim_table}
 use Rattle.vw_statuses.proofs.WrittenLaws.{plain_writer, written_ends}
@@ -91,11 +91,11 @@ promised show (words.plan design board chips probes) call is status = λ texts a
 promised show (words.run design board stimulus given workers unknown probes) call is status = λ d s design_held stimulus_held.
     headline probes design board (by_file given) stimulus workers unknown call is d s design_held stimulus_held status
 promised show (words.demo cells workers) call is status = (demo_table cells workers call is).done status
-promised show (words.save design board stimulus given workers unknown) call is status = λ d s design_held stimulus_held.
-    let traced = run_traced [] (saved_of unknown) (netlist_state unknown) (saved_agree [] unknown) design board (by_file given) stimulus workers unknown call is in
-    writes_over [] (saved_of unknown) design d s _ call (traced.ends.done (d, s) (record { its_held = design_held; stimulus_held = stimulus_held }) status)
-promised show (words.resume design board state stimulus given workers) call is status = λ d t s design_held state_held stimulus_held.
-    let done = (resume_table design board (by_file given) state stimulus workers call is).traced.ends.done (record { design = d; state = t }, s) (record { its_held = (design_held, state_held); stimulus_held = stimulus_held }) status in
+promised show (words.save design board stimulus given workers unknown every) call is status = λ d s design_held stimulus_held.
+    let traced = run_traced [] (texts_kept every (saved_of unknown)) (texts_kept every (netlist_state unknown)) (saves_agree every [] unknown) design board (by_file given) stimulus workers unknown call is in
+    writes_over [] (texts_kept every (saved_of unknown)) design d s _ call (traced.ends.done (d, s) (record { its_held = design_held; stimulus_held = stimulus_held }) status)
+promised show (words.resume design board state stimulus given workers probes) call is status = λ d t s design_held state_held stimulus_held.
+    let done = (resume_traced probes design board (by_file given) state stimulus workers call is).ends.done (record { design = d; state = t }, s) (record { its_held = (design_held, state_held); stimulus_held = stimulus_held }) status in
     record {
       its = done.is.its;
       rows = done.is.rows;

@@ -3,6 +3,7 @@ use Rattle.std.proofs.Common.{◌≡◌, ◌≢◌, ◌<◌, ◌≤◌, ◌+◌,
 use Rattle.vw_net.specs.declared.flat.Flat.{Flat}
 use Rattle.vw_net.specs.declared.ordered.Ordered.{Ordered}
 use Rattle.vw_net.specs.Cells.{latch_count}
+use Rattle.vw_design.specs.Paths.{Word as ProbeWord}
 use Rattle.vw_outside.specs.Told.{Told, held, IsTextOf}
 use Rattle.vw_course.specs.Outside.{SeenOutside, carried}
 use Rattle.vw_course.specs.Course.{Course, stage}
@@ -24,7 +25,7 @@ use Rattle.vw_plan.specs.PlannedBoard.{planned_board}
 use Rattle.vw_prog.specs.declared.word.Word.{Word}
 use Rattle.vw_resume.specs.declared.state.State.{State}
 use Rattle.vw_resume.specs.declared.fault.StateFault.TheVariants.{TooManyClocks}
-use Rattle.vw_resume.specs.Resumed.{resumed_trace}
+use Rattle.vw_trace.specs.FlatTrace.{trace_from}
 use Rattle.vw_resume.proofs.ReadBack.{spelled_once}
 use Rattle.vw_rows.specs.declared.limits.TheConstants.{MOST_CLOCKS}
 use Rattle.vw_courses.specs.declared.vocabulary.File.TheVariants as kinds
@@ -44,33 +45,33 @@ use Rattle.vw_statuses.proofs.PlannedLaws.{IsAmong, Planned, given_among, other_
 use Rattle.vw_statuses.proofs.RunLaws.{may_spell}
 
 -- the state of a text is one, for whatever netlist of the design
-same_state : (texts : ResumeTexts) (its : Resumption) → AreResumed texts its → (ordered : Ordered) (state : State)
+same_state : (probes : List ProbeWord) (texts : ResumeTexts) (its : Resumption) → AreResumed probes texts its → (ordered : Ordered) (state : State)
     → IsStateOf (latch_count ordered.flat.cells) texts.state state → state ≡ its.state
-same_state texts its are ordered state is = spelled_once texts.state state its.state is.spells are.state_is.spells
+same_state probes texts its are ordered state is = spelled_once texts.state state its.state is.spells are.state_is.spells
 
 -- and so is the netlist
-same_flat : (texts : ResumeTexts) (its : Resumption) → AreResumed texts its → (ordered : Ordered) → IsNetlistOf [] texts.design ordered
+same_flat : (probes : List ProbeWord) (texts : ResumeTexts) (its : Resumption) → AreResumed probes texts its → (ordered : Ordered) → IsNetlistOf probes texts.design ordered
     → ordered.flat ≡ its.ordered.flat
-same_flat texts its are ordered is = netlist_same [] texts.design ordered its.ordered is are.netlist
+same_flat probes texts its are ordered is = netlist_same probes texts.design ordered its.ordered is are.netlist
 
-module _ (design board : List ℕ) (by : PlanBy) (state stimulus : List ℕ) (workers : ℕ) (call : Call) where
+module _ (probes : List ProbeWord) (design board : List ℕ) (by : PlanBy) (state stimulus : List ℕ) (workers : ℕ) (call : Call) where
   abbrev rest : Ordered → Board → Plan → Course vocabulary
-  rest = resume_rest state stimulus workers
+  rest = resume_rest (length probes) state stimulus workers
 
   abbrev course : Course vocabulary
-  course = ready_course [] design board by rest
+  course = ready_course probes design board by rest
 
   abbrev told : List ℕ → Told
   told = call.before.shelf.told
 
   abbrev subject : Subject
-  subject = resumptions design board by state stimulus workers
+  subject = resumptions probes design board by state stimulus workers
 
   abbrev all : Files vocabulary
-  all = its_files design board by state stimulus workers
+  all = its_files probes design board by state stimulus workers
 
   abbrev first : Files vocabulary
-  first = up_to_state design board by state stimulus workers
+  first = up_to_state probes design board by state stimulus workers
 
   abbrev anew : Files vocabulary
   anew = (kinds.Stimulus, stimulus) ∷ []
@@ -79,13 +80,13 @@ module _ (design board : List ℕ) (by : PlanBy) (state stimulus : List ℕ) (wo
   own = 11 ∷ 5 ∷ []
 
   abbrev Uses : Scripts → Type 0
-  Uses = UsesFrom design board by state stimulus workers told
+  Uses = UsesFrom probes design board by state stimulus workers told
 
   abbrev Ready : Call → ResumeTexts → List ℕ → Type 0
-  Ready = IsReady design board by state stimulus workers
+  Ready = IsReady probes design board by state stimulus workers
 
   abbrev ReadyPlan : ResumeTexts → Type 0
-  ReadyPlan texts = IsReadyPlan design board by state stimulus workers call texts
+  ReadyPlan texts = IsReadyPlan probes design board by state stimulus workers call texts
 
   -- what the rows are checked for, and the words of the links
   abbrev check : Resumption → RowCheck
@@ -96,10 +97,10 @@ module _ (design board : List ℕ) (by : PlanBy) (state stimulus : List ℕ) (wo
 
   -- behind the state, where rows come
   abbrev goes_on : Planned → State → Course vocabulary
-  goes_on its one = state_course stimulus workers (planned_board its.0 its.1 its.2) one
+  goes_on its one = state_course (length probes) stimulus workers (planned_board its.0 its.1 its.2) one
 
   abbrev rows_then : Ordered → State → Scripts → Course vocabulary
-  rows_then ordered one scripts = checked_rows_course stimulus ordered.flat.inputs (check_by (clocks_fit one.clock)) (resumed_trace ordered.flat one.clock one.latches) scripts
+  rows_then ordered one scripts = checked_rows_course stimulus ordered.flat.inputs (check_by (clocks_fit one.clock)) (trace_from (length probes) one.clock one.latches ordered.flat) scripts
 
   -- ---- where its files are
 
@@ -121,20 +122,20 @@ module _ (design board : List ℕ) (by : PlanBy) (state stimulus : List ℕ) (wo
   -- ---- its opening
 
   abbrev ToPlan : Files vocabulary → Type 1
-  ToPlan files = IsOpening told files (plan_statuses by) (opening [] design board by call) (Has [] design board by call) (HoldTexts [] design board by call) (HavePlan [] by) (Spelled [] design board by call)
+  ToPlan files = IsOpening told files (plan_statuses by) (opening probes design board by call) (Has probes design board by call) (HoldTexts probes design board by call) (HavePlan probes by) (Spelled probes design board by call)
 
   to_plan : (files : Files vocabulary) → IsOneOf files (kinds.Design, design) → IsOneOf files (kinds.Board, board) → IsAmong files by → ToPlan files
-  to_plan files at_design at_board at_given = ready_opening [] design board by call files at_design at_board at_given
+  to_plan files at_design at_board at_given = ready_opening probes design board by call files at_design at_board at_given
 
   -- what the names of the plan and of the state may have
   abbrev HasState : Planned × State → Type 0
-  HasState its = Has [] design board by call its.0 × ((t : List ℕ) × IsTextOf (told state) t × IsStateOf (latch_count its.0.0.flat.cells) t its.1)
+  HasState its = Has probes design board by call its.0 × ((t : List ℕ) × IsTextOf (told state) t × IsStateOf (latch_count its.0.0.flat.cells) t its.1)
 
   -- the state comes behind the plan
-  to_state : IsOpening told all (plan_statuses by ++ 11 ∷ []) {A = Planned × State} {T = PlanTexts × List ℕ} (λ next. opening [] design board by call (λ its. stage (state_kind (latch_count its.0.flat.cells)) state (λ one. next (its, one)))) HasState
-      (λ t. HoldTexts [] design board by call t.0 × (told state ≡ held t.1)) (λ t. HavePlan [] by t.0 × ((its : Planned) → Spelled [] design board by call t.0 its → (one : State) × IsStateOf (latch_count its.0.flat.cells) t.1 one))
-      (λ t its. Spelled [] design board by call t.0 its.0 × IsStateOf (latch_count its.0.0.flat.cells) t.1 its.1)
-  to_state = both_openings told all (plan_statuses by) (11 ∷ []) (opening [] design board by call) _ _ _ _ (to_plan all (inl refl) (inr (inl refl)) at_plan)
+  to_state : IsOpening told all (plan_statuses by ++ 11 ∷ []) {A = Planned × State} {T = PlanTexts × List ℕ} (λ next. opening probes design board by call (λ its. stage (state_kind (latch_count its.0.flat.cells)) state (λ one. next (its, one)))) HasState
+      (λ t. HoldTexts probes design board by call t.0 × (told state ≡ held t.1)) (λ t. HavePlan probes by t.0 × ((its : Planned) → Spelled probes design board by call t.0 its → (one : State) × IsStateOf (latch_count its.0.flat.cells) t.1 one))
+      (λ t its. Spelled probes design board by call t.0 its.0 × IsStateOf (latch_count its.0.0.flat.cells) t.1 its.1)
+  to_state = both_openings told all (plan_statuses by) (11 ∷ []) (opening probes design board by call) _ _ _ _ (to_plan all (inl refl) (inr (inl refl)) at_plan)
       (λ its. stage (state_kind (latch_count its.0.flat.cells)) state) _ _ _ _ (λ its. file_opening told all (state_kind (latch_count its.0.flat.cells)) state at_state)
 
   none_opening : (number : ℕ) → number ≢ 1 → number ≢ 3 → number ≢ 4 → number ≢ 6 → number ≢ 11 → IsNoneOf (plan_statuses by ++ 11 ∷ []) number
@@ -149,7 +150,7 @@ module _ (design board : List ℕ) (by : PlanBy) (state stimulus : List ℕ) (wo
   is_rest : IsRest by all anew own (5 ∷ []) rest
   is_rest = record {
     keeps = λ ordered on its. keeps_stage all anew own (5 ∷ []) (state_kind (latch_count ordered.flat.cells)) state (goes_on (ordered, on, its)) at_state (inl refl)
-        (λ one. keeps_rows stimulus ordered.flat.inputs (check_by (clocks_fit one.clock)) (resumed_trace ordered.flat one.clock one.latches) (words (ordered, on, its) one) all own at_stimulus (inr (inl refl)) (inl refl));
+        (λ one. keeps_rows stimulus ordered.flat.inputs (check_by (clocks_fit one.clock)) (trace_from (length probes) one.clock one.latches ordered.flat) (words (ordered, on, its) one) all own at_stimulus (inr (inl refl)) (inl refl));
     apart = apart;
     whole = λ number one. (apart number one).1;
   }
@@ -157,10 +158,10 @@ module _ (design board : List ℕ) (by : PlanBy) (state stimulus : List ℕ) (wo
   -- ---- to the rows, and back from them
 
   -- the netlist that the name of the design may have is one of the text that is held
-  spells : (texts : ResumeTexts) → subject.Hold call texts → (its : Planned) → Has [] design board by call its → IsNetlistOf [] texts.design its.0
-  spells texts hold its may = subst (λ (t : List ℕ). IsNetlistOf [] t its.0) (its_text (told design) may.d texts.design hold.0 may.design_of) may.on.netlist
+  spells : (texts : ResumeTexts) → subject.Hold call texts → (its : Planned) → Has probes design board by call its → IsNetlistOf probes texts.design its.0
+  spells texts hold its may = subst (λ (t : List ℕ). IsNetlistOf probes t its.0) (its_text (told design) may.d texts.design hold.0 may.design_of) may.on.netlist
 
-  resumed : (texts : ResumeTexts) → subject.Hold call texts → (its : Planned × State) → HasState its → AreResumed texts (record { ordered = its.0.0; state = its.1 })
+  resumed : (texts : ResumeTexts) → subject.Hold call texts → (its : Planned × State) → HasState its → AreResumed probes texts (record { ordered = its.0.0; state = its.1 })
   resumed texts hold its has = record {
     netlist = spells texts hold its.0 has.0;
     state_is = subst (λ (t : List ℕ). IsStateOf (latch_count its.0.0.flat.cells) t its.1) (its_text (told state) has.1.0 texts.state hold.1 has.1.1) has.1.2;
@@ -177,12 +178,12 @@ module _ (design board : List ℕ) (by : PlanBy) (state stimulus : List ℕ) (wo
   }
 
   -- where all up to the state is held and good, the course comes to the rows, as from any netlist and state of the texts
-  module _ (texts : ResumeTexts) (ready : ReadyPlan texts) (its : Resumption) (are : AreResumed texts its) where
-    own_design : (ordered : Ordered) → IsNetlistOf [] ready.plan_texts.design ordered → IsNetlistOf [] texts.design ordered
-    own_design ordered is = subst (λ (t : List ℕ). IsNetlistOf [] t ordered) ready.design_is is
+  module _ (texts : ResumeTexts) (ready : ReadyPlan texts) (its : Resumption) (are : AreResumed probes texts its) where
+    own_design : (ordered : Ordered) → IsNetlistOf probes ready.plan_texts.design ordered → IsNetlistOf probes texts.design ordered
+    own_design ordered is = subst (λ (t : List ℕ). IsNetlistOf probes t ordered) ready.design_is is
 
-    state_for : (ordered : Ordered) → IsNetlistOf [] texts.design ordered → IsStateOf (latch_count ordered.flat.cells) texts.state its.state
-    state_for ordered is = subst (λ (flat : Flat). IsStateOf (latch_count flat.cells) texts.state its.state) (sym (same_flat texts its are ordered is)) are.state_is
+    state_for : (ordered : Ordered) → IsNetlistOf probes texts.design ordered → IsStateOf (latch_count ordered.flat.cells) texts.state its.state
+    state_for ordered is = subst (λ (flat : Flat). IsStateOf (latch_count flat.cells) texts.state its.state) (sym (same_flat probes texts its are ordered is)) are.state_is
 
     come_to : (P : Course vocabulary → Type 0)
         → ((scripts : Scripts) → Uses scripts → StandsAt told all P (rows_then its.ordered its.state scripts)) → StandsAt told all P course
@@ -190,13 +191,13 @@ module _ (design board : List ℕ) (by : PlanBy) (state stimulus : List ℕ) (wo
         (ready.have, λ one spelled. (its.state, state_for one.0 (own_design one.0 spelled.on.netlist))) (λ one. goes_on one.0 one.1)
         (λ one spelled.
         let scripts = words one.0 one.1 in
-        let has : HasState one = (may_spell [] design board by call ready.plan_texts ready.planned_held one.0.0 one.0.1 one.0.2 spelled.0, (texts.state, of_held (told state) texts.state ready.state_held, spelled.1)) in
-        subst (λ (flat : Flat). StandsAt told all P (checked_rows_course stimulus flat.inputs (check_by (clocks_fit one.1.clock)) (resumed_trace flat one.1.clock one.1.latches) scripts)) (sym (same_flat texts its are one.0.0 (own_design one.0.0 spelled.0.on.netlist)))
-        (subst (λ (from : State). StandsAt told all P (rows_then its.ordered from scripts)) (sym (same_state texts its are one.0.0 one.1 spelled.1)) (there scripts (uses one has))))
+        let has : HasState one = (may_spell probes design board by call ready.plan_texts ready.planned_held one.0.0 one.0.1 one.0.2 spelled.0, (texts.state, of_held (told state) texts.state ready.state_held, spelled.1)) in
+        subst (λ (flat : Flat). StandsAt told all P (checked_rows_course stimulus flat.inputs (check_by (clocks_fit one.1.clock)) (trace_from (length probes) one.1.clock one.1.latches flat) scripts)) (sym (same_flat probes texts its are one.0.0 (own_design one.0.0 spelled.0.on.netlist)))
+        (subst (λ (from : State). StandsAt told all P (rows_then its.ordered from scripts)) (sym (same_state probes texts its are one.0.0 one.1 spelled.1)) (there scripts (uses one has))))
 
-  to_rows : ComesToRows subject check trace_from_state stimulus course call all (plan_statuses by ++ own) Ready Uses
+  to_rows : ComesToRows subject check (trace_from_state probes) stimulus course call all (plan_statuses by ++ own) Ready Uses
   to_rows = record {
-    keeps = keeps_all [] design board by call rest all anew own (5 ∷ []) (inl refl) (inr (inl refl)) at_plan is_rest;
+    keeps = keeps_all probes design board by call rest all anew own (5 ∷ []) (inl refl) (inr (inl refl)) at_plan is_rest;
     behind = λ P passes may.
         let later = to_state.behind 5 P passes (none_opening 5 (λ is. omega (arith, is)) (λ is. omega (arith, is)) (λ is. omega (arith, is)) (λ is. omega (arith, is)) (λ is. omega (arith, is))) (λ one. goes_on one.0 one.1) may in
         (record { ordered = later.0.0.0; state = later.0.1 }, λ texts hold. resumed texts hold later.0 later.1, words later.0.0 later.0.1, uses later.0 later.1, later.2);
@@ -206,15 +207,15 @@ module _ (design board : List ℕ) (by : PlanBy) (state stimulus : List ℕ) (wo
     one = at_stimulus;
   }
 
-  pub resume_traced : IsCallOf course call → TracedStatuses subject trace_from_state stimulus all Ready Uses call
-  resume_traced = traced_table subject check trace_from_state stimulus course call all (plan_statuses by ++ own) Ready Uses to_rows
+  pub resume_traced : IsCallOf course call → TracedStatuses subject (trace_from_state probes) stimulus all Ready Uses call
+  resume_traced = traced_table subject check (trace_from_state probes) stimulus course call all (plan_statuses by ++ own) Ready Uses to_rows
 
   -- ---- the state
 
   -- a refusal with its status is for the text of the state, or for the clocks
   module _ (texts : ResumeTexts) (hold : subject.Hold call texts) where
     abbrev WhyOver : Reason → Type 0
-    WhyOver reason = IsNoState texts reason ⊎ MayBeTooMany design board by state stimulus workers told texts reason
+    WhyOver reason = IsNoState probes texts reason ⊎ MayBeTooMany probes design board by state stimulus workers told texts reason
 
     state_why : (reason : Reason) → reason_status reason ≡ 11 → May told (RefusesHere reason) course → WhyOver reason
     state_why reason same may =
@@ -224,7 +225,7 @@ module _ (design board : List ℕ) (by : PlanBy) (state stimulus : List ℕ) (wo
         (λ (bad : IsBadState (latch_count plan.0.0.flat.cells) texts.state reason). inl (record { ordered = plan.0.0; netlist = netlist; bad = bad }))
         (λ (more : (one : State) × IsStateOf (latch_count plan.0.0.flat.cells) texts.state one × May told (RefusesHere reason) (goes_on plan.0 one)).
         let later = stage_behind told 11 (RefusesHere reason) (refusal_behind told 11 reason same) (rows_kind plan.0.0.flat.inputs) stimulus
-        (with_check (check_by (clocks_fit more.0.clock)) (trace_course stimulus plan.0.0.flat.inputs (resumed_trace plan.0.0.flat more.0.clock more.0.latches) (words plan.0 more.0))) (λ is. omega (arith, is)) more.2 in
+        (with_check (check_by (clocks_fit more.0.clock)) (trace_course stimulus plan.0.0.flat.inputs (trace_from (length probes) more.0.clock more.0.latches plan.0.0.flat) (words plan.0 more.0))) (λ is. omega (arith, is)) more.2 in
         inr (
           later.0,
           later.1,
@@ -243,12 +244,12 @@ module _ (design board : List ℕ) (by : PlanBy) (state stimulus : List ℕ) (wo
     -- a stimulus that is held may be no other text
     module _ (s : List ℕ) (held_s : Holds call stimulus s) where
       abbrev Why : Reason → Type 0
-      Why reason = IsNoState texts reason ⊎ AreTooMany design board by state stimulus workers texts s reason
+      Why reason = IsNoState probes texts reason ⊎ AreTooMany probes design board by state stimulus workers texts s reason
 
       held_why : (reason : Reason) → WhyOver reason → Why reason
       held_why reason (inl none) = inl none
       held_why reason (inr (other, of, many)) =
-          inr (subst (λ (t : List ℕ). AreTooMany design board by state stimulus workers texts t reason) (its_text (told stimulus) other s held_s of) many)
+          inr (subst (λ (t : List ℕ). AreTooMany probes design board by state stimulus workers texts t reason) (its_text (told stimulus) other s held_s of) many)
 
       no_state_held : IsCallOf course call → call.status ≡ 11 → IsRefusedFor vocabulary Why call
       no_state_held is status =
@@ -256,24 +257,24 @@ module _ (design board : List ℕ) (by : PlanBy) (state stimulus : List ℕ) (wo
           record { reason = refused.reason; why = held_why refused.reason refused.why; status = refused.status; leaves = refused.leaves; message = refused.message }
 
   -- a text that spells no state of the design is refused
-  state_bad : (texts : ResumeTexts) (reason : Reason) → ReadyPlan texts → IsNoState texts reason → StandsAt told first (IsToRefuse (IsNoState texts)) course
+  state_bad : (texts : ResumeTexts) (reason : Reason) → ReadyPlan texts → IsNoState probes texts reason → StandsAt told first (IsToRefuse (IsNoState probes texts)) course
   state_bad texts reason ready none =
-      (to_plan first (inl refl) (inr (inl refl)) plan_first).comes (IsToRefuse (IsNoState texts)) ready.plan_texts ready.planned_held ready.have (λ its. rest its.0 its.1 its.2)
+      (to_plan first (inl refl) (inr (inl refl)) plan_first).comes (IsToRefuse (IsNoState probes texts)) ready.plan_texts ready.planned_held ready.have (λ its. rest its.0 its.1 its.2)
       (λ its spelled.
-      let netlist = subst (λ (t : List ℕ). IsNetlistOf [] t its.0) ready.design_is spelled.on.netlist in
-      let same : none.ordered.flat ≡ its.0.flat = netlist_same [] texts.design none.ordered its.0 none.netlist netlist in
-      at_bad told first (state_kind (latch_count its.0.flat.cells)) state (goes_on its) texts.state (IsNoState texts) state_first ready.state_held
+      let netlist = subst (λ (t : List ℕ). IsNetlistOf probes t its.0) ready.design_is spelled.on.netlist in
+      let same : none.ordered.flat ≡ its.0.flat = netlist_same probes texts.design none.ordered its.0 none.netlist netlist in
+      at_bad told first (state_kind (latch_count its.0.flat.cells)) state (goes_on its) texts.state (IsNoState probes texts) state_first ready.state_held
       (λ why bad. record { ordered = its.0; netlist = netlist; bad = bad })
       (reason, subst (λ (flat : Flat). IsBadState (latch_count flat.cells) texts.state reason) same none.bad))
 
   -- and so are too many clocks
   clocks_bad : (texts : ResumeTexts) (s : List ℕ) (its : Resumption) (rows : List (List Bool)) → ReadyPlan texts → Holds call stimulus s
       → traced.AreSpelled subject texts s its rows → MOST_CLOCKS < its.state.clock + length rows
-      → StandsAt told all (IsToRefuse (AreTooMany design board by state stimulus workers texts s)) course
+      → StandsAt told all (IsToRefuse (AreTooMany probes design board by state stimulus workers texts s)) course
   clocks_bad texts s its rows ready held_s are many =
-      let P : Course vocabulary → Type 0 = IsToRefuse (AreTooMany design board by state stimulus workers texts s) in
+      let P : Course vocabulary → Type 0 = IsToRefuse (AreTooMany probes design board by state stimulus workers texts s) in
       come_to texts ready its are.spells P
-      (λ scripts used. past told all P (rows_kind its.ordered.flat.inputs) stimulus (with_check (check_by (clocks_fit its.state.clock)) (trace_course stimulus its.ordered.flat.inputs (resumed_trace its.ordered.flat its.state.clock its.state.latches) scripts)) s at_stimulus held_s (rows, are.rows_are)
+      (λ scripts used. past told all P (rows_kind its.ordered.flat.inputs) stimulus (with_check (check_by (clocks_fit its.state.clock)) (trace_course stimulus its.ordered.flat.inputs (trace_from (length probes) its.state.clock its.state.latches its.ordered.flat) scripts)) s at_stimulus held_s (rows, are.rows_are)
       (λ these those. inl (
         (reasons.State (TooManyClocks (its.state.clock + length these)), (refl, subst (λ (so : List (List Bool)). MOST_CLOCKS < its.state.clock + length so) (sym (same_rows its.ordered.flat.inputs s these rows those are.rows_are)) many)),
         λ reason bad. record { its = its; rows = these; are = record { spells = are.spells; rows_are = those }; bad = bad },
@@ -281,8 +282,8 @@ module _ (design board : List ℕ) (by : PlanBy) (state stimulus : List ℕ) (wo
 
   -- ---- the table
 
-  carries : (texts : ResumeTexts) (s : List ℕ) → IsDone (IsTrace subject trace_from_state texts s Uses) call
-      → CarriesFrom design board by state stimulus workers texts s call
+  carries : (texts : ResumeTexts) (s : List ℕ) → IsDone (IsTrace subject (trace_from_state probes) texts s Uses) call
+      → CarriesFrom probes design board by state stimulus workers texts s call
   carries texts s done =
       let trace = done.is in
       let uses = trace.uses in
@@ -301,23 +302,27 @@ module _ (design board : List ℕ) (by : PlanBy) (state stimulus : List ℕ) (wo
             ∙ ap (λ (scripts : Option (ℕ → List Word)). carried scripts call.before.links) said;
       }
 
-  pub resume_table : IsCallOf course call → ResumeStatuses design board by state stimulus workers call
-  resume_table is = record {
-    planned = planned_table [] (omega arith) design board call rest all anew own (5 ∷ []) (inl refl) (inr (inl refl)) by at_plan is_rest is;
+  pub resume_table_of : length probes ≤ 64 → IsCallOf course call → ResumeStatuses probes design board by state stimulus workers call
+  resume_table_of few is = record {
+    planned = planned_table probes few design board call rest all anew own (5 ∷ []) (inl refl) (inr (inl refl)) by at_plan is_rest is;
     no_state = λ texts s hold held_s. no_state_held texts hold s held_s is;
     no_state_over = λ texts hold. no_state_over texts hold is;
-    no_state_comes = λ texts reason ready none. call_refused vocabulary first call (IsNoState texts) course is (state_bad texts reason ready none);
+    no_state_comes = λ texts reason ready none. call_refused vocabulary first call (IsNoState probes texts) course is (state_bad texts reason ready none);
     too_many_come = λ texts s its rows ready held_s are many.
-        call_refused vocabulary all call (AreTooMany design board by state stimulus workers texts s) course is (clocks_bad texts s its rows ready held_s are many);
+        call_refused vocabulary all call (AreTooMany probes design board by state stimulus workers texts s) course is (clocks_bad texts s its rows ready held_s are many);
     traced = resume_traced is;
     on_links = λ texts s hold held_s status. carries texts s ((resume_traced is).ends.done (texts, s) (record { its_held = hold; stimulus_held = held_s }) status);
     done_planned = λ texts hold status.
         let done = (call_table course call is).done status in
-        let later = work_planned [] design board by call rest all anew own (5 ∷ []) (inl refl) (inr (inl refl)) at_plan is_rest texts hold done.did done.is in
+        let later = work_planned probes design board by call rest all anew own (5 ∷ []) (inl refl) (inr (inl refl)) at_plan is_rest texts hold done.did done.is in
         (later.0.2, record { ordered = later.0.0; board = later.0.1; are = later.1 });
     comes = comes all anew (plan_statuses by ++ own) (5 ∷ []) course to_rows.keeps call is (λ number one. among_back (plan_statuses by) own number (inr one));
     absent_state = λ gone. call_barred (plan_statuses by) course call is ((to_plan all (inl refl) (inr (inl refl)) at_plan).barred (plan_statuses by) (λ n one. one) (λ its. rest its.0 its.1 its.2)
         (λ its. barred_here told (plan_statuses by) (state_kind (latch_count its.0.flat.cells)) state (goes_on its) gone));
     absent_stimulus = λ gone. call_barred (plan_statuses by ++ 11 ∷ []) course call is (to_state.barred (plan_statuses by ++ 11 ∷ []) (λ n one. one) (λ one. goes_on one.0 one.1)
-        (λ one. barred_rows stimulus one.0.0.flat.inputs (check_by (clocks_fit one.1.clock)) (resumed_trace one.0.0.flat one.1.clock one.1.latches) (words one.0 one.1) told (plan_statuses by ++ 11 ∷ []) gone));
+        (λ one. barred_rows stimulus one.0.0.flat.inputs (check_by (clocks_fit one.1.clock)) (trace_from (length probes) one.1.clock one.1.latches one.0.0.flat) (words one.0 one.1) told (plan_statuses by ++ 11 ∷ []) gone));
   }
+
+pub resume_table : (probes : List ProbeWord) → length probes ≤ 64 → (design board : List ℕ) (by : PlanBy) (state stimulus : List ℕ) (workers : ℕ) (call : Call)
+    → IsCallOf (ready_course probes design board by (resume_rest (length probes) state stimulus workers)) call → ResumeStatuses probes design board by state stimulus workers call
+resume_table probes few design board by state stimulus workers call is = resume_table_of probes design board by state stimulus workers call few is

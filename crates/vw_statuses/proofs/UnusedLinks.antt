@@ -1,5 +1,5 @@
 -- No link is used but by what runs a board with several workers.
-use Rattle.std.proofs.Common.{◌≡◌, ℕ, Bool, false, List, [], Some, None, ltb, refl, ◌∙◌, ap, arith, if◌then◌else◌}
+use Rattle.std.proofs.Common.{◌≡◌, ℕ, Bool, false, List, [], length, Some, None, ltb, refl, ◌∙◌, ap, arith, if◌then◌else◌}
 use Rattle.std.proofs.lemmas.Bool.{lt-ltb, ltb-false}
 use Rattle.vw_net.specs.declared.ordered.Ordered.{Ordered}
 use Rattle.vw_design.specs.Paths.{Word as ProbeWord}
@@ -51,9 +51,9 @@ over_rows_unused : (probes : List ProbeWord) (design board : List ℕ) (by : Pla
 over_rows_unused probes design board by stimulus text workers unknown few =
     ready_unused probes design board by _ (λ ordered its plan. rows_unused stimulus ordered.flat.inputs (text ordered) _ (λ rows. none_used workers few _))
 
-resume_unused : (state stimulus : List ℕ) (workers : ℕ) → ltb 1 workers ≡ false → (ordered : Ordered) (board : Board) (plan : Plan)
-    → UsesNoLinks (resume_rest state stimulus workers ordered board plan)
-resume_unused state stimulus workers few ordered board plan =
+resume_unused : (count : ℕ) (state stimulus : List ℕ) (workers : ℕ) → ltb 1 workers ≡ false → (ordered : Ordered) (board : Board) (plan : Plan)
+    → UsesNoLinks (resume_rest count state stimulus workers ordered board plan)
+resume_unused count state stimulus workers few ordered board plan =
     λ t its good s rows fine done fit. trace_unused stimulus ordered.flat.inputs _ _ (λ rows. none_used workers few _) rows
 
 report_unused : (probes : List ProbeWord) (design board : List ℕ) (by : PlanBy) → UsesNoLinks (report_course probes design board by)
@@ -70,8 +70,9 @@ course_unused (words.check design board plan probes) none = ready_unused probes 
 course_unused (words.plan design board chips probes) none = ready_unused probes design board (by_chips chips) plan_rest (λ ordered its plan. refl)
 course_unused (words.run design board stimulus given workers unknown probes) none = over_rows_unused probes design board (by_file given) stimulus _ workers unknown none
 course_unused (words.demo cells workers) none = texts_unused vocabulary (generated cells) (summary cells) (demo_run workers) (over_rows_unused [] design_name board_name made_here stimulus_name (netlist_trace 0 false) workers false none)
-course_unused (words.save design board stimulus given workers unknown) none = over_rows_unused [] design board (by_file given) stimulus _ workers unknown none
-course_unused (words.resume design board state stimulus given workers) none = ready_unused [] design board (by_file given) (resume_rest state stimulus workers) (resume_unused state stimulus workers none)
+course_unused (words.save design board stimulus given workers unknown every) none = over_rows_unused [] design board (by_file given) stimulus _ workers unknown none
+course_unused (words.resume design board state stimulus given workers probes) none =
+    ready_unused probes design board (by_file given) (resume_rest (length probes) state stimulus workers) (resume_unused (length probes) state stimulus workers none)
 course_unused (words.report design board given probes) none = report_unused probes design board (by_file given)
 course_unused (words.emit design board given) none = ready_unused [] design board (by_file given) emit_rest (λ ordered its plan done fits. refl)
 course_unused words.help none = refl

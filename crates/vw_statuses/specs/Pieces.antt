@@ -1,5 +1,6 @@
 -- A run that is cut in pieces.
 use Rattle.std.specs.Prelude.{◌≤◌, ◌++◌, ℕ, Bool, List, [], length}
+use Rattle.vw_design.specs.Paths.{Word as ProbeWord}
 use Rattle.vw_front.specs.Designs.{WatchedDesign, IsWatchedDesignOf}
 use Rattle.vw_resume.specs.Joined.{IsJoined}
 use Rattle.vw_rows.specs.declared.limits.TheConstants.{MOST_CLOCKS}
@@ -10,5 +11,12 @@ use Rattle.vw_statuses.specs.ResumeStatuses.{Resumption, AreResumed, trace_from_
 -- the state that `save` writes of the first, is what `run` writes of all
 abbrev pub PiecesJoin : Type 0
 PiecesJoin = (unknown : Bool) (d : List ℕ) (spelled : WatchedDesign) (rows more : List (List Bool)) (its : Resumption)
-    → IsWatchedDesignOf [] d spelled → length rows ≤ MOST_CLOCKS → AreResumed (record { design = d; state = saved_of unknown spelled rows }) its
-    → IsJoined (trace_of unknown spelled rows) (trace_from_state its more) (trace_of unknown spelled (rows ++ more))
+    → IsWatchedDesignOf [] d spelled → length rows ≤ MOST_CLOCKS → AreResumed [] (record { design = d; state = saved_of unknown spelled rows }) its
+    → IsJoined (trace_of unknown spelled rows) (trace_from_state [] its more) (trace_of unknown spelled (rows ++ more))
+
+-- so it is with probes, which the state knows nothing of: `plain` is the design without them
+abbrev pub WatchedPiecesJoin : Type 0
+WatchedPiecesJoin = (probes : List ProbeWord) (unknown : Bool) (d : List ℕ) (spelled plain : WatchedDesign) (rows more : List (List Bool)) (its : Resumption)
+    → IsWatchedDesignOf probes d spelled → IsWatchedDesignOf [] d plain → length rows ≤ MOST_CLOCKS
+    → AreResumed probes (record { design = d; state = saved_of unknown plain rows }) its
+    → IsJoined (trace_of unknown spelled rows) (trace_from_state probes its more) (trace_of unknown spelled (rows ++ more))

@@ -9,7 +9,7 @@ use Rattle.vw_outside.specs.Told.{Told, held}
 use Rattle.vw_outside.specs.Writes.{SeenSink, appended}
 use Rattle.vw_plan.specs.declared.board.Board.{Board}
 use Rattle.vw_plan.specs.declared.plan.Plan.{Plan}
-use Rattle.vw_courses.specs.Commands.{grading_of, nets_text, saved_of, wave_of}
+use Rattle.vw_courses.specs.Commands.{grading_of, nets_text, saved_of, texts_kept, wave_of}
 use Rattle.vw_courses.specs.Help.{help_text, version_text}
 use Rattle.vw_courses.specs.Kinds.{IsRowsOf}
 use Rattle.vw_courses.specs.MayPlan.{PlanBy, made_here, of_file, for_chips, by_file, by_chips}
@@ -51,13 +51,13 @@ pub record WritesReport (probes : List Word) (by : PlanBy) (texts : PlanTexts) (
   pub reports : ReportsPlan probes by texts text
   pub wrote : after ≡ appended before text
 
--- the trace of the netlist of one text, from the state of another on, over the rows of the third
-pub record WritesResumed (texts : ResumeTexts) (s : List ℕ) (before after : SeenSink) : Type 0 where
+-- the trace of the netlist of one text, with probes, from the state of another on, over the rows of the third
+pub record WritesResumed (probes : List Word) (texts : ResumeTexts) (s : List ℕ) (before after : SeenSink) : Type 0 where
   pub its : Resumption
   pub rows : List (List Bool)
-  pub are : AreResumed texts its
+  pub are : AreResumed probes texts its
   pub rows_are : IsRowsOf its.ordered.flat.inputs s rows
-  pub wrote : after ≡ appended before (trace_from_state its rows)
+  pub wrote : after ≡ appended before (trace_from_state probes its rows)
 
 -- the texts of the design, the board, and the plan or the chips that are given, are held
 abbrev pub AreHeld : (List ℕ → Told) → List ℕ → List ℕ → PlanBy → PlanTexts → Type 0
@@ -75,10 +75,10 @@ Promise (words.check design board plan probes) told before after = (texts : Plan
 Promise (words.plan design board chips probes) told before after = (texts : PlanTexts) → AreHeld told design board (by_chips chips) texts → WritesPlanned probes (by_chips chips) plan_text texts before after
 Promise (words.run design board stimulus given workers unknown probes) told before after = (d s : List ℕ) → told design ≡ held d → told stimulus ≡ held s → WritesTrace probes unknown d s before after
 Promise (words.demo cells workers) told before after = HasSummary cells (λ text. after ≡ appended before text)
-Promise (words.save design board stimulus given workers unknown) told before after =
-    (d s : List ℕ) → told design ≡ held d → told stimulus ≡ held s → WritesOver [] (saved_of unknown) d s before after
-Promise (words.resume design board state stimulus given workers) told before after =
-    (d t s : List ℕ) → told design ≡ held d → told state ≡ held t → told stimulus ≡ held s → WritesResumed (record { design = d; state = t }) s before after
+Promise (words.save design board stimulus given workers unknown every) told before after =
+    (d s : List ℕ) → told design ≡ held d → told stimulus ≡ held s → WritesOver [] (texts_kept every (saved_of unknown)) d s before after
+Promise (words.resume design board state stimulus given workers probes) told before after =
+    (d t s : List ℕ) → told design ≡ held d → told state ≡ held t → told stimulus ≡ held s → WritesResumed probes (record { design = d; state = t }) s before after
 Promise (words.report design board given probes) told before after =
     (texts : PlanTexts) → AreHeld told design board (by_file given) texts → WritesReport probes (by_file given) texts before after
 Promise (words.emit design board given) told before after = (texts : PlanTexts) → AreHeld told design board (by_file given) texts → WritesBoard (by_file given) texts before after

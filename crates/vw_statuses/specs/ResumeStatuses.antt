@@ -2,6 +2,7 @@
 use Rattle.std.specs.Prelude.{◌≡◌, ◌<◌, ◌≤◌, ◌+◌, ◌++◌, ◌⊎◌, ℕ, Bool, List, [], ◌∷◌, length}
 use Rattle.vw_net.specs.declared.ordered.Ordered.{Ordered}
 use Rattle.vw_net.specs.Cells.{latch_count}
+use Rattle.vw_design.specs.Paths.{Word as ProbeWord}
 use Rattle.vw_outside.specs.Told.{Told, IsTextOf}
 use Rattle.vw_course.specs.Outside.{carried}
 use Rattle.vw_course.specs.Places.{Files}
@@ -11,7 +12,7 @@ use Rattle.vw_plan.specs.declared.board.Board.{Board}
 use Rattle.vw_plan.specs.declared.plan.Plan.{Plan}
 use Rattle.vw_plan.specs.PlannedBoard.{planned_board}
 use Rattle.vw_resume.specs.declared.state.State.{State}
-use Rattle.vw_resume.specs.Resumed.{resumed_trace}
+use Rattle.vw_trace.specs.FlatTrace.{trace_from}
 use Rattle.vw_rows.specs.declared.limits.TheConstants.{MOST_CLOCKS}
 use Rattle.vw_courses.specs.declared.vocabulary.File.TheVariants as files
 use Rattle.vw_courses.specs.declared.vocabulary.Reason.{Reason}
@@ -32,28 +33,28 @@ pub record Resumption : Type 0 where
   pub ordered : Ordered
   pub state : State
 
--- the texts spell them
-pub record AreResumed (texts : ResumeTexts) (its : Resumption) : Type 0 where
-  pub netlist : IsNetlistOf [] texts.design its.ordered
+-- the texts spell them, with the nets that the probes find among the outputs
+pub record AreResumed (probes : List ProbeWord) (texts : ResumeTexts) (its : Resumption) : Type 0 where
+  pub netlist : IsNetlistOf probes texts.design its.ordered
   pub state_is : IsStateOf (latch_count its.ordered.flat.cells) texts.state its.state
 
 -- the trace of the netlist from the state on, which knows no board
-abbrev pub trace_from_state : TextOver Resumption
-trace_from_state its rows = resumed_trace its.ordered.flat its.state.clock its.state.latches rows
+abbrev pub trace_from_state : List ProbeWord → TextOver Resumption
+trace_from_state probes its rows = trace_from (length probes) its.state.clock its.state.latches its.ordered.flat rows
 
 -- the text of a state spells none of the design, for this reason
-pub record IsNoState (texts : ResumeTexts) (reason : Reason) : Type 0 where
+pub record IsNoState (probes : List ProbeWord) (texts : ResumeTexts) (reason : Reason) : Type 0 where
   pub ordered : Ordered
-  pub netlist : IsNetlistOf [] texts.design ordered
+  pub netlist : IsNetlistOf probes texts.design ordered
   pub bad : IsBadState (latch_count ordered.flat.cells) texts.state reason
 
-module _ (design board : List ℕ) (by : PlanBy) (state stimulus : List ℕ) (workers : ℕ) where
+module _ (probes : List ProbeWord) (design board : List ℕ) (by : PlanBy) (state stimulus : List ℕ) (workers : ℕ) where
   abbrev pub resumptions : Subject
   resumptions = record {
     Texts = ResumeTexts;
     Thing = Resumption;
     Hold = λ call texts. Holds call design texts.design × Holds call state texts.state;
-    Spells = AreResumed;
+    Spells = AreResumed probes;
     width = λ its. its.ordered.flat.inputs;
   }
 
@@ -66,7 +67,7 @@ module _ (design board : List ℕ) (by : PlanBy) (state stimulus : List ℕ) (wo
 
   -- texts that the names may have spell these, with such a plan and such a state
   pub record MayResume (told : List ℕ → Told) (ordered : Ordered) (its_board : Board) (plan : Plan) (its_state : State) : Type 0 where
-    pub on : MaySpell [] design board by told ordered its_board plan
+    pub on : MaySpell probes design board by told ordered its_board plan
     pub t : List ℕ
     pub state_of : IsTextOf (told state) t
     pub state_is : IsStateOf (latch_count ordered.flat.cells) t its_state
@@ -84,9 +85,9 @@ module _ (design board : List ℕ) (by : PlanBy) (state stimulus : List ℕ) (wo
   pub record IsReadyPlan (call : Call) (texts : ResumeTexts) : Type 0 where
     pub plan_texts : PlanTexts
     pub design_is : plan_texts.design ≡ texts.design
-    pub planned_held : HoldTexts [] design board by call plan_texts
+    pub planned_held : HoldTexts probes design board by call plan_texts
     pub state_held : Holds call state texts.state
-    pub have : HavePlan [] by plan_texts
+    pub have : HavePlan probes by plan_texts
 
   -- all its texts are held, there is a plan, and no rows of the stimulus are too many
   pub record IsReady (call : Call) (texts : ResumeTexts) (s : List ℕ) : Type 0 where
@@ -120,25 +121,25 @@ module _ (design board : List ℕ) (by : PlanBy) (state stimulus : List ℕ) (wo
 
   pub record ResumeStatuses (call : Call) : Type 0 where
     -- 1, 3, and 4 or 6, and a design, a board or a plan that is absent
-    pub planned : PlannedStatuses [] design board by call
+    pub planned : PlannedStatuses probes design board by call
     -- 11: exactly where the text of the state spells none of the design, or the clocks are too many together: over the
     -- stimulus that is held, and else over one that it may be
     pub no_state : (texts : ResumeTexts) (s : List ℕ) → resumptions.Hold call texts → Holds call stimulus s → call.status ≡ 11
-        → IsRefusedFor vocabulary (λ reason. IsNoState texts reason ⊎ AreTooMany texts s reason) call
+        → IsRefusedFor vocabulary (λ reason. IsNoState probes texts reason ⊎ AreTooMany texts s reason) call
     pub no_state_over : (texts : ResumeTexts) → resumptions.Hold call texts → call.status ≡ 11
-        → IsRefusedFor vocabulary (λ reason. IsNoState texts reason ⊎ MayBeTooMany call.before.shelf.told texts reason) call
-    pub no_state_comes : (texts : ResumeTexts) (reason : Reason) → IsReadyPlan call texts → IsNoState texts reason
-        → IsRefusedFor vocabulary (IsNoState texts) call ⊎ IsStopped vocabulary up_to_state call
+        → IsRefusedFor vocabulary (λ reason. IsNoState probes texts reason ⊎ MayBeTooMany call.before.shelf.told texts reason) call
+    pub no_state_comes : (texts : ResumeTexts) (reason : Reason) → IsReadyPlan call texts → IsNoState probes texts reason
+        → IsRefusedFor vocabulary (IsNoState probes texts) call ⊎ IsStopped vocabulary up_to_state call
     pub too_many_come : (texts : ResumeTexts) (s : List ℕ) (its : Resumption) (rows : List (List Bool)) → IsReadyPlan call texts → Holds call stimulus s
         → AreSpelled resumptions texts s its rows → MOST_CLOCKS < its.state.clock + length rows
         → IsRefusedFor vocabulary (AreTooMany texts s) call ⊎ IsStopped vocabulary its_files call
     -- 0, 5, 7, 8 and 9, and that it completes: the text is the trace of the design from the state on, whatever the plan is, and
     -- links carry the words of one plan of these files, or a part of them
-    pub traced : TracedStatuses resumptions trace_from_state stimulus its_files IsReady (UsesFrom call.before.shelf.told) call
+    pub traced : TracedStatuses resumptions (trace_from_state probes) stimulus its_files IsReady (UsesFrom call.before.shelf.told) call
     -- 0: each link has carried its script of one such plan
     pub on_links : (texts : ResumeTexts) (s : List ℕ) → resumptions.Hold call texts → Holds call stimulus s → call.status ≡ 0 → CarriesFrom texts s call
     -- it is done on such a plan alone
-    pub done_planned : (texts : PlanTexts) → HoldTexts [] design board by call texts → call.status ≡ 0 → (plan : Plan) × IsTheirPlan [] by texts plan
+    pub done_planned : (texts : PlanTexts) → HoldTexts probes design board by call texts → call.status ≡ 0 → (plan : Plan) × IsTheirPlan probes by texts plan
     -- no other status comes
     pub comes : HasStatus (plan_statuses by ++ 11 ∷ 5 ∷ []) call
     -- a state that is told to be absent is a read fault, unless memory runs out, or another file is refused before; and so is a

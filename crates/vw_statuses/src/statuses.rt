@@ -1,12 +1,12 @@
 //! Laws of the commands, as contracts of functions that do nothing.
-ghost use Rattle.std.specs.Prelude.{◌≡◌, ◌≤◌, ℕ, Bool, false, List, [], length};
+ghost use Rattle.std.specs.Prelude.{◌≡◌, ◌≤◌, ℕ, Bool, false, List, Option, [], length};
 ghost use Rattle.vw_words.specs.FirstWrong.{IsFirstWrong};
 ghost use Rattle.vw_words.specs.Matched.{first_wrong};
 ghost use Rattle.vw_design.specs.Paths.{Word};
 ghost use Rattle.vw_course.specs.Endings.{IsCallOf};
 ghost use Rattle.vw_course.specs.Statuses.{Holds, Statuses};
 ghost use Rattle.vw_courses.specs.Words.{Spelled, command_forms, help, spelled_by, uses_links, version};
-ghost use Rattle.vw_courses.specs.Commands.{check_course, course_of, demo_course, emit_course, grade_course, nets_course, plan_course, report_course, resume_course, run_course, save_course, saved_of, sim_course, trace_of, usage_course, wave_course, wave_of};
+ghost use Rattle.vw_courses.specs.Commands.{check_course, course_of, demo_course, emit_course, grade_course, nets_course, plan_course, report_course, resume_course, run_course, save_course, saved_of, sim_course, texts_kept, trace_of, usage_course, wave_course, wave_of};
 ghost use Rattle.vw_courses.specs.MayPlan.{PlanBy};
 ghost use Rattle.vw_courses.specs.Messages.{Call};
 ghost use Rattle.vw_statuses.specs.Headline.{Headline, WritesTrace};
@@ -20,7 +20,7 @@ ghost use Rattle.vw_statuses.specs.EmitStatuses.{EmitStatuses};
 ghost use Rattle.vw_statuses.specs.WrittenStatuses.{CheckStatuses, PlanStatuses};
 ghost use Rattle.vw_statuses.specs.ReportStatuses.{ReportStatuses};
 ghost use Rattle.vw_statuses.specs.RunStatuses.{RunStatuses};
-ghost use Rattle.vw_statuses.specs.Pieces.{PiecesJoin};
+ghost use Rattle.vw_statuses.specs.Pieces.{PiecesJoin, WatchedPiecesJoin};
 ghost use Rattle.vw_statuses.specs.ResumeStatuses.{ResumeStatuses};
 ghost use Rattle.vw_statuses.specs.ConstantStatuses.{ConstantStatuses};
 ghost use Rattle.vw_courses.specs.Help.{help_text, version_text};
@@ -128,27 +128,30 @@ pub fn run_statuses()
 {}
 
 /// What each status of `save` says of its files, whichever way its plan comes (`PlanBy`): after status 0, out has the
-/// state of the unpartitioned design after all rows; with several workers each link has carried exactly its words.
+/// state of the unpartitioned design after all rows, and with a number of clocks (`every`) the states behind each so many, too;
+/// with several workers each link has carried exactly its words.
 pub fn save_statuses()
     ensures { (design board stimulus : List ℕ) (by : PlanBy) (workers : ℕ)
-        (unknown : Bool) (call : Call)
-        → IsCallOf (save_course design board by stimulus workers unknown) call
-        → RunStatuses [] (saved_of unknown) design board by stimulus workers unknown call }
+        (unknown : Bool) (every : Option ℕ) (call : Call)
+        → IsCallOf (save_course design board by stimulus workers unknown every) call
+        → RunStatuses [] (texts_kept every (saved_of unknown)) design board by stimulus workers unknown call }
 {}
 
-/// What each status of `resume` says of its files, whichever way its plan comes (`PlanBy`): after status 0, out has the
-/// trace of the unpartitioned design from the state on; with several workers each link has carried exactly its words.
+/// What each status of `resume` says of its files, with 64 probes at most, whichever way its plan comes (`PlanBy`): after
+/// status 0, out has the trace of the unpartitioned design from the state on; with several workers each link has carried exactly its words.
 pub fn resume_statuses()
-    ensures { (design board state stimulus : List ℕ) (by : PlanBy) (workers : ℕ)
-        (call : Call)
-        → IsCallOf (resume_course design board by state stimulus workers) call
-        → ResumeStatuses design board by state stimulus workers call }
+    ensures { (probes : List Word) → length probes ≤ 64
+        → (design board state stimulus : List ℕ) (by : PlanBy) (workers : ℕ) (call : Call)
+        → IsCallOf (resume_course probes design board by state stimulus workers) call
+        → ResumeStatuses probes design board by state stimulus workers call }
 {}
 
 /// A run that is cut in pieces: what `run` writes of the first rows, joined line by line with what `resume` writes of the others
-/// from the state that `save` writes of the first, is what `run` writes of all. No board, plan or number of workers counts.
+/// from the state that `save` writes of the first, is what `run` writes of all. No board, plan or number of workers counts. So it
+/// is with the same probes on both sides, too.
 pub fn pieces_join()
-    ensures { PiecesJoin }
+    ensures plain { PiecesJoin }
+    ensures watched { WatchedPiecesJoin }
 {
     traces_join();
 }

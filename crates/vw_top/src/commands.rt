@@ -178,6 +178,7 @@ fn carry_out_together<R: Threads + Wait + Sync, S: Shelf, F: Fabric, G: BurstGat
             plan,
             workers,
             unknown,
+            every,
         } => {
             let files = BoardFiles {
                 design,
@@ -186,7 +187,7 @@ fn carry_out_together<R: Threads + Wait + Sync, S: Shelf, F: Fabric, G: BurstGat
                 plan: PlanBy::file(plan),
             };
             floor.workers = workers;
-            save(alloc, &files, stimulus, unknown, floor, outside)
+            save(alloc, &files, stimulus, unknown, every, floor, outside)
         }
         RuntimeCommand::Resume {
             design,
@@ -195,10 +196,12 @@ fn carry_out_together<R: Threads + Wait + Sync, S: Shelf, F: Fabric, G: BurstGat
             stimulus,
             plan,
             workers,
+            probes,
         } => {
+            let probes = probes_of(alloc, probes)?;
             let files = BoardFiles {
                 design,
-                probes: Probes { nets: &[] },
+                probes: Probes { nets: &probes },
                 board,
                 plan: PlanBy::file(plan),
             };

@@ -36,10 +36,10 @@ usage: vwires COMMAND FILE.. [SETTING..]\n\
 \x20 run DESIGN BOARD STIM       runs a design on a board, and writes its trace\n\
 \x20     [plan=FILE] [workers=N] [unknown=0|1] [probe=NET]..\n\
 \x20 save DESIGN BOARD STIM      runs a design on a board, and writes its state\n\
-\x20     [plan=FILE] [workers=N] [unknown=0|1]\n\
+\x20     [plan=FILE] [workers=N] [unknown=0|1] [every=N]\n\
 \x20 resume DESIGN BOARD STATE STIM\n\
 \x20                             goes on from a state, and writes the trace\n\
-\x20     [plan=FILE] [workers=N] [unknown=0|1]\n\
+\x20     [plan=FILE] [workers=N] [unknown=0|1] [probe=NET]..\n\
 \x20 emit DESIGN BOARD           writes a planned board as a design in BLIF\n\
 \x20     [plan=FILE]\n\
 \x20 demo CELLS                  runs a generated design of 1 to 20000 cells on\n\
@@ -57,6 +57,7 @@ usage: vwires COMMAND FILE.. [SETTING..]\n\
 \x20 probe=NET      a net that is watched beside the outputs, up to 64 times\n\
 \x20 plan=FILE      the plan to run by (one is made)\n\
 \x20 chips=FILE     the chip of each cell, as in a plan (they are chosen)\n\
+\x20 every=N        a state for each N clocks, too (only one at the end)\n\
 \x20 workers=N      how many threads run the chips or grade, 1 to 64 (4)\n\
 \n\
 The exit status is 0 where the command was carried out. A design (1), words\n\

@@ -24,7 +24,7 @@ use vw_net::Cell;
 use vw_outside::{BurstGate, Name, Shelf, Sink};
 use vw_plan::Checked;
 use vw_prog::Fabric;
-use vw_resume::{ResumeFault, State, StateFault, run_from};
+use vw_resume::{ResumeFault, State, StateFault, run_watched_from};
 use vw_rows::{MOST_CLOCKS, Rereading};
 
 /// The number of latches among cells.
@@ -65,21 +65,23 @@ fn state_answer(ran: Result<State, ResumeFault>) -> Result<(), Unfinished>
 }
 
 /// Checks the stimulus, and that its clocks can follow those of the state. Then it runs a planned design over it from the
-/// state on, as it is read again, and writes the trace. The workers of the floor run it.
+/// state on, as it is read again, and writes the trace. So many last outputs are probes. The workers of the floor run it.
 fn resume_state<R: Threads + Wait + Sync, S: Shelf, F: Fabric, G: BurstGate, O: Sink>(
     alloc: Global,
     checked: Checked,
+    probes: u32,
     state: State,
     stimulus: &Name,
     floor: &mut Floor<'_, '_, '_, R, F, G>,
     outside: &mut Outside<'_, '_, S, O>,
 ) -> Result<(), Unfinished>
+    requires probes { probes ≤ length checked.ordered.flat.outputs }
     requires few { state.clock ≤ MOST_CLOCKS }
     requires latches { length state.latches ≡ latch_count checked.ordered.flat.cells }
     ensures fabric { floor.new.fabric.ghost_name ≡ floor.old.fabric.ghost_name }
     ensures goes { GoesOver S.seen O.seen vocabulary
         (MovedFrom (F.carried floor.old.fabric.now) (F.carried floor.new.fabric.now))
-        (state_course stimulus.now floor.old.workers
+        (state_course probes stimulus.now floor.old.workers
         (planned_board checked.ordered checked.board checked.plan) state)
         outside.old outside.new result }
 {
@@ -89,7 +91,15 @@ fn resume_state<R: Threads + Wait + Sync, S: Shelf, F: Fabric, G: BurstGate, O: 
         stimulus: &mut rows,
         shelf: outside.shelf,
     };
-    let ran = run_from(alloc, checked, state, floor, &mut again, outside.out);
+    let ran = run_watched_from(
+        alloc,
+        checked,
+        probes,
+        state,
+        floor,
+        &mut again,
+        outside.out,
+    );
     state_answer(ran)
 }
 
@@ -97,24 +107,26 @@ fn resume_state<R: Threads + Wait + Sync, S: Shelf, F: Fabric, G: BurstGate, O: 
 fn resume_checked<R: Threads + Wait + Sync, S: Shelf, F: Fabric, G: BurstGate, O: Sink>(
     alloc: Global,
     checked: Checked,
+    probes: u32,
     state: &Name,
     stimulus: &Name,
     floor: &mut Floor<'_, '_, '_, R, F, G>,
     outside: &mut Outside<'_, '_, S, O>,
 ) -> Result<(), Unfinished>
+    requires probes { probes ≤ length checked.ordered.flat.outputs }
     ensures fabric { floor.new.fabric.ghost_name ≡ floor.old.fabric.ghost_name }
     ensures goes { GoesOver S.seen O.seen vocabulary
         (MovedFrom (F.carried floor.old.fabric.now) (F.carried floor.new.fabric.now))
-        (resume_rest state.now stimulus.now floor.old.workers checked.ordered checked.board checked.plan)
+        (resume_rest probes state.now stimulus.now floor.old.workers checked.ordered checked.board checked.plan)
         outside.old outside.new result }
 {
     let latches = latch_count(checked.ordered().flat().cells());
     let state = read_state(alloc, outside.shelf, state, latches)?;
-    resume_state(alloc, checked, state, stimulus, floor, outside)
+    resume_state(alloc, checked, probes, state, stimulus, floor, outside)
 }
 
 /// Runs a design on a board over a stimulus from a state on, by the plan that is given or by one that is made, and writes
-/// its trace, whose clocks are numbered from the state's clock on.
+/// its trace with the nets that the probes find, whose clocks are numbered from the state's clock on.
 pub fn resume<R: Threads + Wait + Sync, S: Shelf, F: Fabric, G: BurstGate, O: Sink>(
     alloc: Global,
     files: &BoardFiles<'_, '_, '_, '_>,
@@ -127,9 +139,11 @@ pub fn resume<R: Threads + Wait + Sync, S: Shelf, F: Fabric, G: BurstGate, O: Si
     ensures goes { GoesOver S.seen O.seen vocabulary
         (MovedFrom (F.carried floor.old.fabric.now) (F.carried floor.new.fabric.now))
         (ready_course files.now.probes.nets.now files.now.design.now files.now.board.now
-        (by_of files.now.plan) (resume_rest state.now stimulus.now floor.old.workers))
+        (by_of files.now.plan)
+        (resume_rest (length files.now.probes.nets.now) state.now stimulus.now floor.old.workers))
         outside.old outside.new result }
 {
     let checked = ready_board(alloc, files, outside.shelf)?;
-    resume_checked(alloc, checked, state, stimulus, floor, outside)
+    let probes = files.probes.nets.len() as u32;
+    resume_checked(alloc, checked, probes, state, stimulus, floor, outside)
 }

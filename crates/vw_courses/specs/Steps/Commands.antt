@@ -1,5 +1,5 @@
 -- Commands of the code as those of the words.
-use Rattle.std.specs.Prelude.{ℕ, take}
+use Rattle.std.specs.Prelude.{ℕ, take, option_map}
 use Rattle.std.specs.Option.{option_copied}
 use Rattle.vw_courses.specs.declared.command.Command.{Command}
 use Rattle.vw_courses.specs.declared.command.Command.TheVariants.{Plain, OnRuntime}
@@ -37,10 +37,10 @@ plain_view (plain.Nothing place) = words.nothing place
 abbrev pub runtime_view : RuntimeCommand → Spelled
 runtime_view (runtime.Grade design stimulus workers unknown) = words.grade design.now stimulus.now workers unknown
 runtime_view (runtime.Run its several) = run_view its several.workers
-runtime_view (runtime.Save design board stimulus plan workers unknown) =
-    words.save design.now board.now stimulus.now (option_copied plan) workers unknown
-runtime_view (runtime.Resume design board state stimulus plan workers) =
-    words.resume design.now board.now state.now stimulus.now (option_copied plan) workers
+runtime_view (runtime.Save design board stimulus plan workers unknown every) =
+    words.save design.now board.now stimulus.now (option_copied plan) workers unknown (option_map (λ interval. interval.clocks) every)
+runtime_view (runtime.Resume design board state stimulus plan workers probes) =
+    words.resume design.now board.now state.now stimulus.now (option_copied plan) workers (take MOST_PROBES probes)
 runtime_view (runtime.Demo size several) = words.demo size.cells several.workers
 
 abbrev pub command_view : Command → Spelled

@@ -8,7 +8,7 @@ const BOARDS: [&str; 2] = [
 ];
 
 /// The first lines of a text, and the others.
-fn cut(alloc: Global, text: &str, lines: u32) -> Result<(String, String), AllocError> {
+pub fn cut(alloc: Global, text: &str, lines: u32) -> Result<(String, String), AllocError> {
     let mut front = String::new(alloc);
     let mut rest = String::new(alloc);
     let mut seen: u32 = 0;
@@ -26,7 +26,7 @@ fn cut(alloc: Global, text: &str, lines: u32) -> Result<(String, String), AllocE
 }
 
 /// How many lines a text has.
-fn lines_of(text: &str) -> u32 {
+pub fn lines_of(text: &str) -> u32 {
     let mut lines: u32 = 0;
     for letter in text.chars() {
         if letter == '\n' {
@@ -37,7 +37,7 @@ fn lines_of(text: &str) -> u32 {
 }
 
 /// One trace without its last line, and behind it another without its first.
-fn joined(alloc: Global, one: &str, other: &str) -> Result<String, AllocError> {
+pub fn joined(alloc: Global, one: &str, other: &str) -> Result<String, AllocError> {
     let (mut text, _) = cut(alloc, one, lines_of(one).saturating_sub(1))?;
     let (_, later) = cut(alloc, other, 1)?;
     text.push_str(later.as_str())?;
@@ -45,12 +45,12 @@ fn joined(alloc: Global, one: &str, other: &str) -> Result<String, AllocError> {
 }
 
 /// A design on the first board, and its first rows.
-fn first_piece<'x>(design: &'x str, rows: &'x str) -> [(&'x str, &'x str); 3] {
+pub fn first_piece<'x>(design: &'x str, rows: &'x str) -> [(&'x str, &'x str); 3] {
     [("d", design), ("b", BOARDS[0]), ("s", rows)]
 }
 
 /// A design on the second board, a state, and the rows that follow it.
-fn later_piece<'x>(design: &'x str, state: &'x str, rows: &'x str) -> [(&'x str, &'x str); 4] {
+pub fn later_piece<'x>(design: &'x str, state: &'x str, rows: &'x str) -> [(&'x str, &'x str); 4] {
     [("d", design), ("b", BOARDS[1]), ("t", state), ("s", rows)]
 }
 
@@ -101,6 +101,18 @@ fn joins_at<R: Threads + Wait + Copy + Send + Sync>(
     are_found(all.as_bytes(), whole.as_bytes(), first.as_str())
 }
 
+/// What such words write of a design over rows.
+pub fn simulated_with<R: Threads + Wait + Copy + Send + Sync>(
+    rt: &R,
+    alloc: Global,
+    design: &str,
+    rows: &str,
+    words: &[&str],
+) -> Result<String, Fail> {
+    let texts = [("d", design), ("s", rows)];
+    written_on(rt, alloc, words, &texts)
+}
+
 /// The trace of a design over rows.
 fn simulated<R: Threads + Wait + Copy + Send + Sync>(
     rt: &R,
@@ -108,8 +120,7 @@ fn simulated<R: Threads + Wait + Copy + Send + Sync>(
     design: &str,
     rows: &str,
 ) -> Result<String, Fail> {
-    let texts = [("d", design), ("s", rows)];
-    written_on(rt, alloc, SIM, &texts)
+    simulated_with(rt, alloc, design, rows, SIM)
 }
 
 /// Fails unless this holds of a generated design at each of these places.

@@ -192,7 +192,7 @@ fn states_need_a_runtime(rt: HostRuntime) -> Result<(), Fail> {
             "usage: word 5\n",
         ),
         (
-            &["resume", "d", "b", "t", "r", "probe=q"],
+            &["resume", "d", "b", "t", "r", "every=1"],
             2,
             "",
             "usage: word 6\n",

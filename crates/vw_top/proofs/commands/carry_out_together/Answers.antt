@@ -1,4 +1,4 @@
-use Rattle.std.proofs.Common.{◌≡◌, ℕ, List, take, sym, ◌∙◌, ap, subst}
+use Rattle.std.proofs.Common.{◌≡◌, ℕ, List, take, option_map, sym, ◌∙◌, ap, subst}
 use Rattle.std.specs.Option.{option_copied}
 use Rattle.vw_course.specs.Goes.{GoesOver, MovedFrom}
 use Rattle.vw_courses.specs.Commands.{course_of, resume_course, run_course, save_course}
@@ -6,6 +6,7 @@ use Rattle.vw_courses.specs.MayPlan.{PlanBy}
 use Rattle.vw_courses.specs.Messages.{vocabulary}
 use Rattle.vw_courses.specs.Steps.Commands.{runtime_view}
 use Rattle.vw_courses.specs.Words.{Spelled}
+use Rattle.vw_courses.specs.declared.command.Interval.{Interval}
 use Rattle.vw_courses.specs.declared.forms.TheConstants.{MOST_PROBES}
 use Rattle.vw_courses.specs.Words as words
 use Rattle.vw_top.proofs.commands.carry_out_together.Goals as goal
@@ -42,16 +43,19 @@ returns-in_ok-probes-in-Run-clause-goes g c =
 pub returns-in-Save-clause-goes : goal.returns-in-Save-clause-goes
 returns-in-Save-clause-goes g c =
     let its = c.in-Save in
-    let is : runtime_view c.args.command ≡ words.save its.design.now its.board.now its.stimulus.now (option_copied its.plan) its.workers its.unknown = ap runtime_view its.is in
+    let is : runtime_view c.args.command ≡ words.save its.design.now its.board.now its.stimulus.now (option_copied its.plan) its.workers its.unknown (option_map (λ (interval : Interval). interval.clocks) its.every) = ap runtime_view its.is in
     subst (λ (spelled : Spelled). GoesOver g.S.Shelf.seen g.O.Sink.seen vocabulary (MovedFrom (g.F.Fabric.carried c.args.floor.now.fabric.now) (g.F.Fabric.carried c.save.new.floor.fabric.now)) (course_of spelled) c.args.outside.now c.save.new.outside c.save.result) (sym is)
-    (subst (λ (by : PlanBy). GoesOver g.S.Shelf.seen g.O.Sink.seen vocabulary (MovedFrom (g.F.Fabric.carried c.args.floor.now.fabric.now) (g.F.Fabric.carried c.save.new.floor.fabric.now)) (save_course its.design.now its.board.now by its.stimulus.now its.workers its.unknown) c.args.outside.now c.save.new.outside c.save.result) c.file-in-Save.ensures
+    (subst (λ (by : PlanBy). GoesOver g.S.Shelf.seen g.O.Sink.seen vocabulary (MovedFrom (g.F.Fabric.carried c.args.floor.now.fabric.now) (g.F.Fabric.carried c.save.new.floor.fabric.now)) (save_course its.design.now its.board.now by its.stimulus.now its.workers its.unknown (option_map (λ (interval : Interval). interval.clocks) its.every)) c.args.outside.now c.save.new.outside c.save.result) c.file-in-Save.ensures
     c.save.ensures.goes)
 
--- and this resumption
-pub returns-in-Resume-clause-goes : goal.returns-in-Resume-clause-goes
-returns-in-Resume-clause-goes g c =
+-- and this resumption, with the nets that the words watch
+pub returns-in_ok-probes-in-Resume-clause-goes : goal.returns-in_ok-probes-in-Resume-clause-goes
+returns-in_ok-probes-in-Resume-clause-goes g c =
     let its = c.in-Resume in
-    let is : runtime_view c.args.command ≡ words.resume its.design.now its.board.now its.state.now its.stimulus.now (option_copied its.plan) its.workers = ap runtime_view its.is in
-    subst (λ (spelled : Spelled). GoesOver g.S.Shelf.seen g.O.Sink.seen vocabulary (MovedFrom (g.F.Fabric.carried c.args.floor.now.fabric.now) (g.F.Fabric.carried c.resume.new.floor.fabric.now)) (course_of spelled) c.args.outside.now c.resume.new.outside c.resume.result) (sym is)
-    (subst (λ (by : PlanBy). GoesOver g.S.Shelf.seen g.O.Sink.seen vocabulary (MovedFrom (g.F.Fabric.carried c.args.floor.now.fabric.now) (g.F.Fabric.carried c.resume.new.floor.fabric.now)) (resume_course its.design.now its.board.now by its.state.now its.stimulus.now its.workers) c.args.outside.now c.resume.new.outside c.resume.result) c.file-in-Resume.ensures
+    let watched = c.deref-in-Resume.result.now in
+    let probes : watched ≡ take MOST_PROBES its.probes = c.deref-in-Resume.ensures.value ∙ c.in_ok-probes-in-Resume.ensures.values in
+    let spells = λ (nets : List (List ℕ)). words.resume its.design.now its.board.now its.state.now its.stimulus.now (option_copied its.plan) its.workers nets in
+    let is : runtime_view c.args.command ≡ spells (take MOST_PROBES its.probes) = ap runtime_view its.is in
+    subst (λ (spelled : Spelled). GoesOver g.S.Shelf.seen g.O.Sink.seen vocabulary (MovedFrom (g.F.Fabric.carried c.args.floor.now.fabric.now) (g.F.Fabric.carried c.resume.new.floor.fabric.now)) (course_of spelled) c.args.outside.now c.resume.new.outside c.resume.result) (sym (is ∙ ap spells (sym probes)))
+    (subst (λ (by : PlanBy). GoesOver g.S.Shelf.seen g.O.Sink.seen vocabulary (MovedFrom (g.F.Fabric.carried c.args.floor.now.fabric.now) (g.F.Fabric.carried c.resume.new.floor.fabric.now)) (resume_course watched its.design.now its.board.now by its.state.now its.stimulus.now its.workers) c.args.outside.now c.resume.new.outside c.resume.result) c.file-in-Resume.ensures
     c.resume.ensures.goes)

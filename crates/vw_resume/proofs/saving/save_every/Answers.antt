@@ -1,0 +1,44 @@
+use Rattle.std.proofs.Common.{◌∙◌, ℕ, List, Bool, [], sym, ap, ap₂}
+use Rattle.std.proofs.lemmas.Result.{err_from_is_err_and}
+use Rattle.vw_net.specs.declared.flat.Flat.{Flat}
+use Rattle.vw_net.specs.Cells.{start_values}
+use Rattle.vw_net.specs.History.{flat_history}
+use Rattle.vw_outside.proofs.PiecesWritten.{appended-nil}
+use Rattle.vw_plan.specs.declared.checked.Checked.{Checked}
+use Rattle.vw_plan.specs.PlannedBoard.{planned_board}
+use Rattle.vw_trace.proofs.StreamedTexts.{headed, nothing_streamed}
+use Rattle.vw_batches.specs.Traffic.{HaveCarried}
+use Rattle.vw_batches.proofs.JoinedTraffic.{after_no_rows}
+use Rattle.vw_batches.proofs.StartedBoards.{its_words}
+use Rattle.vw_resume.specs.Saved.{kept_texts, saved_text}
+use Rattle.vw_resume.specs.Steps.Kept.{kept_from}
+use Rattle.vw_resume.proofs.KeptStates.{kept_is}
+use Rattle.vw_resume.proofs.saving.save_every.Goals as goal
+
+-- there was no memory for the board
+pub returns-in_err-board-clause-streams : goal.returns-in_err-board-clause-streams
+returns-in_err-board-clause-streams g c =
+    let checked = c.args.checked in
+    let planned = planned_board checked.ordered checked.board checked.plan in
+    let start = start_values c.args.unknown checked.ordered.flat.cells in
+    let carried = g.F.Fabric.carried c.args.floor.now.fabric.now in
+    let p = err_from_is_err_and c.from_residual.result c.from_residual.ensures.1 in
+    rw (p.1, p.2)
+    (nothing_streamed c.args.rows.now (kept_texts c.args.every (saved_text c.args.unknown checked.ordered.flat)) (HaveCarried c.args.floor.now.workers planned 0 start carried carried)
+    (after_no_rows planned 0 start c.args.floor.now.workers carried) (g.O.Sink.seen c.args.out.now))
+
+-- the board has the plan, and stands before the first clock
+pub returns-clause-streams : goal.returns-clause-streams
+returns-clause-streams g c =
+    let its = c.in_ok-board.ensures in
+    let job = c.in_ok-board.board.job in
+    let before = g.O.Sink.seen c.args.out.now in
+    let start = start_values c.args.unknown c.args.checked.ordered.flat.cells in
+    let text : ℕ → ℕ → Flat → List Bool → List (List Bool) → List ℕ = λ every clock flat state these. kept_from every clock (flat_history flat state these) in
+    headed [] (kept_texts c.args.every (saved_text c.args.unknown c.args.checked.ordered.flat)) before (sym (appended-nil before))
+    (λ these.
+    ap₂ (λ (every clock : ℕ). text every clock job.checked.ordered.flat job.start these) c.make-recorder.ensures.every c.make-recorder.ensures.clocks
+    ∙ ap₂ (λ (checked : Checked) (state : List Bool). text c.args.every 0 checked.ordered.flat state these) its.checked its.state
+    ∙ kept_is c.args.every c.args.unknown c.args.checked.ordered.flat these)
+    (λ these done. its_words job its.checked its.clock its.state these c.args.floor.now.workers (g.F.Fabric.carried c.args.floor.now.fabric.now) (g.F.Fabric.carried c.go_on.new.floor.fabric.now) done.0)
+    c.go_on.ensures.records
