@@ -427,12 +427,12 @@ expect 4 "plan 2: line 3"
 
 fi
 echo
-echo "| design | chips | wires in blocks | wires of the plan | period | bound | seconds | peak, MB | period, delays of 3 | bound |"
-echo "|---|---|---|---|---|---|---|---|---|---|"
+echo "| design | chips | wires in blocks | wires of the plan | period | bound | BOUND | SHORT | seconds | of report | peak, MB | period, delays of 3 | bound | BOUND | SHORT |"
+echo "|---|---|---|---|---|---|---|---|---|---|---|---|---|---|---|"
 # planned NAME CELLS ROWS COLUMNS WIDTH: one line of the table of plans that are made, of design.blif, with room for 3 % more
-# cells, on links of a delay of 1 and of 3
+# cells, on links of a delay of 1 and of 3; BOUND and SHORT are those of report
 planned() {
-  local chips=$(($3 * $4)) delay line="" wires period
+  local chips=$(($3 * $4)) delay line="" wires period made most bound short
   local room=$((($2 * 103 + 100 * chips - 1) / (100 * chips)))
   for delay in 1 3; do
     mesh "$3" "$4" $room "$5" $delay >mesh.board
@@ -440,8 +440,15 @@ planned() {
     expect 0 ""
     read -r _ _ _ wires period <out
     mv out made.plan
-    [ $delay = 1 ] && line="$(wires_in_blocks design.blif $room) | $wires | $period | $(least_period mesh.board made.plan design.blif) | $seconds | $peak"
-    [ $delay = 3 ] && line="$line | $period | $(least_period mesh.board made.plan design.blif)"
+    made=$seconds
+    most=$peak
+    measured report design.blif mesh.board plan=made.plan
+    expect 0 ""
+    read -r _ _ _ _ _ _ bound short <out
+    made="$made | $seconds | $most"
+    bound="$(least_period mesh.board made.plan design.blif) | $bound | $short"
+    [ $delay = 1 ] && line="$(wires_in_blocks design.blif $room) | $wires | $period | $bound | $made"
+    [ $delay = 3 ] && line="$line | $period | $bound"
     measured check design.blif mesh.board made.plan
     expect 0 ""
   done

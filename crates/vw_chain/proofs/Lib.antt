@@ -2,3 +2,4 @@ pub mod GateReads
 mod DueEnds
 mod Ways
 mod BackReady
+mod OtherPeriods

@@ -6,9 +6,11 @@ mod back;
 mod chain;
 mod critical;
 mod due;
+mod laws;
 mod timed;
 mod times;
 
 pub use chain::{Chain, Critical, End, Step};
 pub use critical::critical_chain;
+pub use laws::chains_set_periods;
 pub use timed::Timed;
