@@ -4,6 +4,7 @@ use crate::level::Level;
 use crate::nets::{cells_of_nets, level_of};
 use crate::rows::NumberRows;
 use crate::timing::Timing;
+use crate::urgency::Urgency;
 use std::alloc::{AllocError, Global};
 use vw_net::{Cell, Flat, Ordered};
 use vw_plan::Board;
@@ -15,6 +16,8 @@ struct Arcs<'a> {
     timing: &'a Timing<'a>,
     /// An arc counts where its slack is less than the longest path divided by this number.
     shares: u32,
+    /// As how many nets an arc without slack counts.
+    times: u32,
     /// Each arc as often as it is critical.
     rows: NumberRows,
 }
@@ -27,7 +30,8 @@ impl<'a> Arcs<'a> {
         if read < inputs || read == net {
             return Ok(());
         }
-        for _time in 0..self.timing.weight(read, net, rest, self.shares) {
+        let weight = self.timing.weight(read, net, rest, self.shares, self.times);
+        for _time in 0..weight {
             self.rows.push(read.saturating_sub(inputs))?;
             self.rows.push(cell)?;
             self.rows.end_row()?;
@@ -72,17 +76,22 @@ fn arcs_of(
     ordered: &Ordered,
     board: &Board,
     chip_of: &[u32],
+    urgency: Urgency,
 ) -> Result<NumberRows, AllocError> {
+    if urgency.is_none() {
+        return NumberRows::new(alloc);
+    }
     let flat = ordered.flat();
     let timing = Timing::of(alloc, ordered, board, chip_of)?;
     let cells = u32::try_from(flat.cells().len()).unwrap_or(u32::MAX);
     let most = cells.saturating_mul(2);
-    let mut shares: u32 = 5;
+    let mut shares = urgency.shares();
     for _try in 0..3u32 {
         let mut arcs = Arcs {
             flat,
             timing: &timing,
             shares,
+            times: urgency.times(),
             rows: NumberRows::new(alloc)?,
         };
         arcs.add_all(most)?;
@@ -101,10 +110,11 @@ pub fn timed_level(
     ordered: &Ordered,
     board: &Board,
     chip_of: &[u32],
+    urgency: Urgency,
 ) -> Result<Level, AllocError> {
     let flat = ordered.flat();
     let mut of_net = cells_of_nets(alloc, flat)?;
-    let arcs = arcs_of(alloc, ordered, board, chip_of)?;
+    let arcs = arcs_of(alloc, ordered, board, chip_of, urgency)?;
     for arc in 0..arcs.len() {
         of_net.push_all(arcs.row(arc))?;
         of_net.end_row()?;

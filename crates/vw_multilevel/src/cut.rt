@@ -108,11 +108,9 @@ impl Cut {
             self.there.set(chip, 0);
         }
         for net in level.of_vertex.row(vertex) {
-            for chip in 0..self.chips {
-                if self.counts.at(self.place(*net, chip)) > 0 {
-                    self.there.add(chip, 1);
-                }
-            }
+            let first = self.place(*net, 0);
+            let counts = self.counts.between(first, first.wrapping_add(self.chips));
+            self.there.count(counts);
         }
     }
 

@@ -105,8 +105,9 @@ impl CellParts {
         let mut run = self.halving(alloc, low, all, cells)?;
         let mut best = run.of(alloc, &level)?;
         for order in 1..tries {
-            // where most is cut, another try finds little
-            if best.extra(&level) > u64::from(cells / 64) {
+            // where most is cut, another try finds little, and where next to nothing is cut, it gains little
+            let extra = best.extra(&level);
+            if extra > u64::from(cells / 64) || extra <= u64::from(cells / 4096) {
                 break;
             }
             run.order = order;

@@ -16,9 +16,11 @@ mod rows;
 mod run;
 mod starts;
 mod timing;
+mod urgency;
 mod ways;
 mod wishes;
 
 pub use refine::{again, rounds};
 pub use starts::renumbered;
+pub use urgency::Urgency;
 pub use wishes::hint;

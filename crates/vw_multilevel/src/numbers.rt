@@ -99,6 +99,13 @@ impl NumberList {
         }
     }
 
+    /// Adds one at each place at which another list has a number above 0; it wraps.
+    pub fn count(&mut self, others: &[u32]) {
+        for (number, other) in self.items.iter_mut().zip(others) {
+            *number = number.wrapping_add(u32::from(*other > 0));
+        }
+    }
+
     /// Puts a number at the end.
     pub fn push(&mut self, number: u32) -> Result<(), AllocError> {
         self.items.push(number)?;

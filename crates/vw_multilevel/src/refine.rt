@@ -6,12 +6,13 @@ use crate::cut::Cut;
 use crate::level::Level;
 use crate::numbers::NumberList;
 use crate::run::{Coarser, finer};
+use crate::urgency::Urgency;
 use std::alloc::{AllocError, Global};
 use vw_net::{Cell, Ordered};
 use vw_plan::Board;
 
 /// How many counts of a net on a chip all rounds may have together.
-const MOST_WORK: u64 = 30_000_000;
+const MOST_WORK: u64 = 50_000_000;
 
 /// A round.
 #[derive(Drop)]
@@ -153,24 +154,25 @@ pub fn rounds(ordered: &Ordered, board: &Board) -> u32 {
     }
     let work = pins.saturating_mul(u64::from(board.chips()));
     let many = MOST_WORK.checked_div(work).unwrap_or(MOST_WORK);
-    u32::try_from(many.max(2).min(12)).unwrap_or(12)
+    u32::try_from(many.max(2).min(24)).unwrap_or(24)
 }
 
 /// A chip for each cell, given the chips of a plan: where it might be put so that critical paths are shorter and few nets are
 /// on several chips. It is another hint; nothing but how good a plan becomes rests on it.
 ///
 /// The cells of each chip are put into clusters, these into greater ones, and then great clusters, lesser ones and at last
-/// cells are moved to chips where that helps. Each arc of a critical path is a further net of two cells. Rounds are numbered:
-/// they look at the cells in several orders and make clusters of two sizes. It takes memory for the nets of the cells, for two
-/// arcs a cell, and for each chip a number for each of these.
+/// cells are moved to chips where that helps. Each arc of a critical path is a further net of two cells, or several, by the
+/// urgency. Rounds are numbered: they look at the cells in several orders and make clusters of two sizes. It takes memory for
+/// the nets of the cells, for two arcs a cell, and for each chip a number for each of these.
 pub fn again(
     alloc: Global,
     ordered: &Ordered,
     board: &Board,
     chip_of: &[u32],
     number: u32,
+    urgency: Urgency,
 ) -> Result<Vec<u32>, AllocError> {
-    let top = timed_level(alloc, ordered, board, chip_of)?;
+    let top = timed_level(alloc, ordered, board, chip_of, urgency)?;
     let share = top.vertices().checked_div(board.chips()).unwrap_or(0);
     let most = if number % 2 == 0 {
         share / 6

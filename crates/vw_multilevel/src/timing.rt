@@ -195,13 +195,13 @@ impl<'a> Timing<'a> {
             .min(self.depth)
     }
 
-    /// How critical it is that the cell that drives a net reads another, as a number up to 2: 0 where the slack is no less
-    /// than the longest path divided by this number.
-    pub fn weight(&self, read: u32, net: u32, rest: u32, shares: u32) -> u32 {
+    /// As how many nets it counts that the cell that drives a net reads another, given what follows then: `times` where there is
+    /// no slack, and 0 where it is no less than the longest path divided by `shares`.
+    pub fn weight(&self, read: u32, net: u32, rest: u32, shares: u32, times: u32) -> u32 {
         let depth = u64::from(self.depth);
         let path = u64::from(self.path(read, net, rest)) * u64::from(shares);
         let least = depth * u64::from(shares.saturating_sub(1));
-        let over = path.saturating_sub(least).saturating_mul(2);
+        let over = path.saturating_sub(least).saturating_mul(u64::from(times));
         u32::try_from(over.div_ceil(depth.max(1))).unwrap_or(0)
     }
 }

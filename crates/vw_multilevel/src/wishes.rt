@@ -60,7 +60,7 @@ fn effort(top: &Level, chips: u32) -> (u32, u32) {
     } else if size > 16_000_000 {
         (1, 1)
     } else if size > 4_000_000 {
-        (3, 1)
+        (2, 1)
     } else {
         (4, 2)
     }

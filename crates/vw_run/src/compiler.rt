@@ -7,13 +7,13 @@ ghost use Rattle.vw_plan.specs.PlannedBoard.{planned_board};
 ghost use Rattle.vw_run.specs.GivenChips.{IsCompiledFor, IsPlanFor};
 ghost use Rattle.vw_run.specs.Compiled.{IsCompileFault, IsCompiled, IsCompileRefused};
 
-use crate::better::{Bounds, better};
+use crate::better::{better, has_many_wires, most_wires};
 use crate::fault::{CompileFault, CompileRefused};
 use crate::routes::routes_of;
 use crate::way::{FIRST_WAY, OTHER_WAYS, ROUND_WAY, Way, shorter};
 use std::alloc::{AllocError, Global};
 use vw_board::Distances;
-use vw_multilevel::{again, hint, renumbered, rounds};
+use vw_multilevel::{Urgency, again, hint, renumbered, rounds};
 use vw_net::{Ordered, Sequence};
 use vw_part::{PartFault, partition_from};
 use vw_pipe::schedule;
@@ -169,70 +169,67 @@ fn polished(
     Ok(plan)
 }
 
-/// The best of a good plan and of those that some rounds make, each with wishes that are made of the plan before it. Where
-/// four in a row wish for nothing new, no further one does, since rounds repeat after four. Want of memory in a round is want
-/// of memory: else a plan would rest on how much of it there is.
+/// The best of a good plan and of those that some rounds make that haven't more than so many wires. Each round has wishes that
+/// are made of the plan before it, also where that has more: then the next one looks less at paths and more at wires. Where
+/// eight in a row wish for nothing new, no further one does, since rounds repeat. Want of memory in a round is want of memory:
+/// else a plan would rest on how much of it there is.
 fn refined(
     alloc: Global,
     ordered: &Ordered,
     board: &Board,
     distances: &Distances,
     first: Plan,
+    most: u64,
 ) -> Result<Plan, CompileFault>
     requires distances { distances.now ≡ board.now }
     requires good { IsGood (planned_board ordered.now board.now first) }
     ensures good { IfOk result (λ plan. IsGood (planned_board ordered.now board.now plan)) }
     ensures fault { IfErr result (IsCompileFault ordered.now board.now) }
 {
-    let mut bounds = Bounds {
-        period: first.period(),
-        wires: first.wires().len(),
-    };
     let mut last = first.chip_of().to_vec(alloc)?;
     let mut best = first;
+    let mut urgency = Urgency::first();
     let mut still: u32 = 0;
     for round in 0..rounds(ordered, board) {
-        if still == 4 {
+        if still == 8 {
             break;
         }
-        let wishes = again(alloc, ordered, board, last.as_slice(), round)?;
+        let wishes = again(alloc, ordered, board, last.as_slice(), round, urgency)?;
         if wishes.as_slice() == last.as_slice() {
+            urgency = urgency.after(round, false);
             still = still.saturating_add(1);
             continue;
         }
         still = 0;
         let next = plan_from(alloc, ordered, board, distances, wishes.as_slice())?;
+        urgency = urgency.after(round, has_many_wires(&next, most));
         last = next.chip_of().to_vec(alloc)?;
-        bounds.wires = bounds.wires.min(next.wires().len());
-        best = better(ordered, board, best, next, bounds);
+        best = better(ordered, board, best, next, most);
     }
     Ok(best)
 }
 
-/// The best of a good plan and of those that a few other starts of its placement lead to: the same parts, with their chips
-/// numbered anew. None has a longer period.
+/// The best of a good plan and of those that a few other starts of its placement lead to that haven't more than so many wires:
+/// the same parts, with their chips numbered anew. None has a longer period.
 fn started_anew(
     alloc: Global,
     ordered: &Ordered,
     board: &Board,
     distances: &Distances,
     plan: Plan,
+    most: u64,
 ) -> Result<Plan, CompileFault>
     requires distances { distances.now ≡ board.now }
     requires good { IsGood (planned_board ordered.now board.now plan) }
     ensures good { IfOk result (λ plan. IsGood (planned_board ordered.now board.now plan)) }
     ensures fault { IfErr result (IsCompileFault ordered.now board.now) }
 {
-    let bounds = Bounds {
-        period: plan.period(),
-        wires: plan.wires().len(),
-    };
     let parts = plan.chip_of().to_vec(alloc)?;
     let mut best = plan;
     for seed in 1..5u32 {
         let wishes = renumbered(alloc, board, parts.as_slice(), seed)?;
         let next = plan_from(alloc, ordered, board, distances, wishes.as_slice())?;
-        best = better(ordered, board, best, next, bounds);
+        best = better(ordered, board, best, next, most);
     }
     Ok(best)
 }
@@ -255,8 +252,9 @@ fn plan_by(
     if board.chips() < 2 {
         return Ok(first);
     }
-    let best = refined(alloc, ordered, board, distances, first)?;
-    let best = started_anew(alloc, ordered, board, distances, best)?;
+    let most = most_wires(&first);
+    let best = refined(alloc, ordered, board, distances, first, most)?;
+    let best = started_anew(alloc, ordered, board, distances, best, most)?;
     polished(alloc, ordered, board, distances, best)
 }
 

@@ -14,6 +14,22 @@ use vw_plan::{Board, Need, Route, node_of};
 use vw_route::{is_least_walk, spread_walks, walk};
 use vw_wires::needed;
 
+/// A placement of a netlist on a board: each cell has a chip of the board.
+#[derive(Drop)]
+struct Placed<'a> {
+    /// The netlist, with the order of its gates.
+    ordered: &'a Ordered,
+    /// The board.
+    board: &'a Board,
+    /// How far the nodes of the board are from each other.
+    distances: &'a Distances,
+    /// The chip of each cell.
+    chip_of: &'a [u32],
+    ghost each: { length chip_of.now ≡ length ordered.now.flat.cells },
+    ghost chips: { All (IsChip board.now) chip_of.now },
+    ghost same_board: { distances.now ≡ board.now },
+}
+
 /// The nodes of a walk with the least number of links: those that are wished for, where they are one, and else the walk by
 /// first steps.
 fn walk_by(
@@ -38,27 +54,19 @@ fn walk_by(
 }
 
 /// A shortest route for a needed pair, by a wish.
-fn route_of(
-    alloc: Global,
-    ordered: &Ordered,
-    board: &Board,
-    distances: &Distances,
-    chip_of: &[u32],
-    need: &Need,
-    wish: &[u32],
-) -> Result<Route, AllocError>
-    requires each { length chip_of.now ≡ length ordered.now.flat.cells }
-    requires chips { All (IsChip board.now) chip_of.now }
-    requires distances { distances.now ≡ board.now }
-    requires net { need.now.net < ordered.now.flat.inputs + length ordered.now.flat.cells }
-    requires to { need.now.to ≤ board.now.chips }
-    requires apart { node_of ordered.now.flat chip_of.now need.now.net ≢ need.now.to }
+fn route_of(alloc: Global, placed: &Placed, need: &Need, wish: &[u32]) -> Result<Route, AllocError>
+    requires net { need.now.net
+        < placed.now.ordered.now.flat.inputs + length placed.now.ordered.now.flat.cells }
+    requires to { need.now.to ≤ placed.now.board.now.chips }
+    requires apart { node_of placed.now.ordered.now.flat placed.now.chip_of.now need.now.net
+        ≢ need.now.to }
     ensures net { IfOk result (λ route. route.net ≡ need.now.net) }
     ensures to { IfOk result (λ route. route.to ≡ need.now.to) }
-    ensures short { IfOk result (IsShortRoute ordered.now.flat board.now chip_of.now) }
+    ensures short { IfOk result (IsShortRoute placed.now.ordered.now.flat placed.now.board.now
+        placed.now.chip_of.now) }
 {
-    let from = node_of(ordered.flat(), chip_of, need.net());
-    let nodes = walk_by(alloc, board, distances, from, need.to(), wish)?;
+    let from = node_of(placed.ordered.flat(), placed.chip_of, need.net());
+    let nodes = walk_by(alloc, placed.board, placed.distances, from, need.to(), wish)?;
     Ok(Route::make(need.net(), need.to(), nodes))
 }
 
@@ -72,17 +80,12 @@ pub enum Routing {
 }
 
 /// The two ends of each needed pair.
-fn ends_of(
-    alloc: Global,
-    ordered: &Ordered,
-    chip_of: &[u32],
-    needs: &[Need],
-) -> Result<Vec<(u32, u32)>, AllocError> {
-    let inputs = ordered.flat().inputs();
+fn ends_of(alloc: Global, placed: &Placed, needs: &[Need]) -> Result<Vec<(u32, u32)>, AllocError> {
+    let inputs = placed.ordered.flat().inputs();
     let mut ends = Vec::with_capacity(alloc, needs.len())?;
     for need in needs {
         let home = match need.net().checked_sub(inputs) {
-            Some(cell) => chip_of.get(cell as usize).copied().unwrap_or(0),
+            Some(cell) => placed.chip_of.get(cell as usize).copied().unwrap_or(0),
             None => 0,
         };
         ends.push((home, need.to()))?;
@@ -93,20 +96,15 @@ fn ends_of(
 /// The walks that are wished for; none where the routing wishes for none.
 fn wishes_of(
     alloc: Global,
-    ordered: &Ordered,
-    board: &Board,
-    distances: &Distances,
-    chip_of: &[u32],
+    placed: &Placed,
     needs: &[Need],
     routing: Routing,
-) -> Result<Vec<Sequence<u32>>, AllocError>
-    requires { distances.now ≡ board.now }
-{
+) -> Result<Vec<Sequence<u32>>, AllocError> {
     match routing {
         Routing::FirstSteps => Ok(Vec::new(alloc)),
         Routing::Spread => {
-            let ends = ends_of(alloc, ordered, chip_of, needs)?;
-            spread_walks(alloc, board, distances, &ends)
+            let ends = ends_of(alloc, placed, needs)?;
+            spread_walks(alloc, placed.board, placed.distances, &ends)
         }
     }
 }
@@ -126,23 +124,21 @@ pub fn routes_of(
     ensures routes { IfOk result (AreRoutes ordered.now.flat board.now chip_of.now) }
     ensures short { IfOk result (All (IsShortRoute ordered.now.flat board.now chip_of.now)) }
 {
-    let needs = needed(alloc, ordered, chip_of)?;
-    let wishes = wishes_of(
-        alloc,
+    let placed = Placed {
         ordered,
         board,
         distances,
         chip_of,
-        needs.as_slice(),
-        routing,
-    )?;
+    };
+    let needs = needed(alloc, ordered, chip_of)?;
+    let wishes = wishes_of(alloc, &placed, needs.as_slice(), routing)?;
     let mut routes = Vec::with_capacity(alloc, needs.len())?;
     for need in needs.as_slice() {
         let wish: &[u32] = match wishes.get(routes.len()) {
             Some(walk) => walk.as_slice(),
             None => &[],
         };
-        routes.push(route_of(alloc, ordered, board, distances, chip_of, need, wish)?)?;
+        routes.push(route_of(alloc, &placed, need, wish)?)?;
     }
     Ok(Sequence::of(routes))
 }
