@@ -1,5 +1,5 @@
 -- States that are kept on the way.
-use Rattle.std.proofs.Common.{◌≡◌, ◌≤◌, ◌<◌, ◌+◌, ◌-◌, ◌%◌, ◌==◌, ℕ, Bool, true, false, List, [], ◌∷◌, ◌++◌, length, take, drop, get_or, refl, sym, ◌∙◌, ap, ap₂, subst, append_assoc, append-nil, length-append, if◌then◌else◌, arith}
+use Rattle.std.proofs.Common.{◌≡◌, ◌<◌, ◌+◌, ◌-◌, ◌%◌, ◌==◌, ℕ, Bool, true, false, List, [], ◌∷◌, ◌++◌, length, take, drop, get_or, refl, sym, ◌∙◌, ap, ap₂, append_assoc, append-nil, length-append, if◌then◌else◌, arith}
 use Rattle.std.specs.List.{filter, flat_map, range_with_len}
 use Rattle.std.proofs.lemmas.Bool.{ne_eqb}
 use Rattle.std.proofs.lemmas.Grind.{flat_map-append}
@@ -10,9 +10,9 @@ use Rattle.vw_net.specs.Cells.{start_values}
 use Rattle.vw_net.specs.History.{History, flat_history, next_state, state_after, states_of}
 use Rattle.vw_net.proofs.Counts.{length-states_of}
 use Rattle.vw_net.proofs.Histories.{state_after-append}
-use Rattle.vw_resume.specs.Saved.{saved_text, kept_clocks, kept_texts}
+use Rattle.vw_resume.specs.Saved.{saved_text, kept_texts}
 use Rattle.vw_resume.specs.States.{state_text}
-use Rattle.vw_resume.specs.Steps.Kept.{is_kept, kept_text, kept_before, kept_from}
+use Rattle.vw_resume.specs.Steps.Kept.{kept_text, kept_before, kept_from}
 
 -- ---- batch by batch
 

@@ -4,3 +4,4 @@ pub mod TraceAsLines
 pub mod JoinedTraces
 pub mod SavedStates
 pub mod KeptStates
+pub mod PassedRows

@@ -13,7 +13,7 @@ use Rattle.vw_text.proofs.DecimalDigits.{decimal_without}
 use Rattle.vw_text.proofs.Decimals.{number_of-decimal}
 use Rattle.vw_text.specs.Printed.{bits_text}
 use Rattle.vw_resume.specs.declared.fault.StateFault.{StateFault}
-use Rattle.vw_resume.specs.declared.fault.StateFault.TheVariants.{BadText, WrongLatches, TooManyClocks, NoMemory}
+use Rattle.vw_resume.specs.declared.fault.StateFault.TheVariants.{BadText, WrongLatches, TooManyClocks, TooFewClocks, NoMemory}
 use Rattle.vw_resume.specs.declared.state.State.{State}
 use Rattle.vw_resume.specs.States.{state_text, Spells, IsBadState}
 use Rattle.vw_resume.specs.Steps.Loosely.{is_space, before_space, behind_space, bits_named, clock_in, latches_in}
@@ -101,6 +101,7 @@ pub fault_once : (text : List ℕ) (wanted : ℕ) (one other : StateFault) → I
 fault_once text wanted BadText BadText bad again = refl
 fault_once text wanted BadText (WrongLatches found others) bad again = absurd (bad.1 again.1.0.0 again.1.0.1)
 fault_once text wanted BadText (TooManyClocks clocks) bad again = absurd again.1
+fault_once text wanted BadText (TooFewClocks found others) bad again = absurd again.1
 fault_once text wanted BadText NoMemory bad again = absurd (true≢false (sym again.0))
 fault_once text wanted (WrongLatches found others) BadText bad again = absurd (again.1 bad.1.0.0 bad.1.0.1)
 fault_once text wanted (WrongLatches found others) (WrongLatches next further) bad again =
@@ -109,8 +110,10 @@ fault_once text wanted (WrongLatches found others) (WrongLatches next further) b
     let both : others ≡ further = bad.1.1 ∙ sym again.1.1 in
     ap₂ (λ (n m : ℕ). WrongLatches n m) count both
 fault_once text wanted (WrongLatches found others) (TooManyClocks clocks) bad again = absurd again.1
+fault_once text wanted (WrongLatches found others) (TooFewClocks next further) bad again = absurd again.1
 fault_once text wanted (WrongLatches found others) NoMemory bad again = absurd (true≢false (sym again.0))
 fault_once text wanted (TooManyClocks clocks) other bad again = absurd bad.1
+fault_once text wanted (TooFewClocks found others) other bad again = absurd bad.1
 fault_once text wanted NoMemory other bad again = absurd (true≢false (sym bad.0))
 
 pub spelled_unrefused : (text : List ℕ) (wanted : ℕ) (state : State) (fault : StateFault) → Spells text state → length state.latches ≡ wanted → IsBadState wanted text fault → ⊥
@@ -118,4 +121,5 @@ spelled_unrefused text wanted state BadText is count bad = bad.1 state is
 spelled_unrefused text wanted state (WrongLatches found others) is count bad =
     bad.1.2 (sym bad.1.0.2 ∙ ap (λ (one : State). length one.latches) (spelled_once text bad.1.0.0 state bad.1.0.1 is) ∙ count)
 spelled_unrefused text wanted state (TooManyClocks clocks) is count bad = bad.1
+spelled_unrefused text wanted state (TooFewClocks found others) is count bad = bad.1
 spelled_unrefused text wanted state NoMemory is count bad = true≢false (sym bad.0)

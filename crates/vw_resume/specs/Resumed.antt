@@ -1,5 +1,5 @@
 -- Runs that go on from a state. Source: this project.
-use Rattle.std.specs.Prelude.{◌≡◌, ◌+◌, ℕ, Bool, List, length, Result, Ok, Err, IfOk}
+use Rattle.std.specs.Prelude.{◌≡◌, ◌+◌, ℕ, Bool, List, drop, length, Result, Ok, Err, IfOk}
 use Rattle.vw_net.specs.declared.flat.Flat.{Flat}
 use Rattle.vw_net.specs.History.{state_after}
 use Rattle.vw_plan.specs.PlannedBoard.{PlannedBoard}
@@ -12,6 +12,10 @@ use Rattle.vw_resume.specs.declared.state.State.{State}
 -- the trace of a netlist over rows, from these latch values on; the first clock has the number `clock`
 abbrev pub resumed_trace : Flat → ℕ → List Bool → List (List Bool) → List ℕ
 resumed_trace flat clock latches rows = trace_from 0 clock latches flat rows
+
+-- the same over all rows from the beginning on, of which those before the clock are passed over; the last so many outputs are probes
+abbrev pub replayed_trace : ℕ → Flat → ℕ → List Bool → List (List Bool) → List ℕ
+replayed_trace probes flat clock latches rows = trace_from probes clock latches flat (drop clock rows)
 
 -- the links have carried the words of some rows, from a clock and latch values on; and after a success the answer is the
 -- state after these rows

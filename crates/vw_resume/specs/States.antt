@@ -5,7 +5,7 @@ use Rattle.vw_net.specs.declared.limits.TheConstants.{MOST_CELLS}
 use Rattle.vw_rows.specs.declared.limits.TheConstants.{MOST_CLOCKS}
 use Rattle.vw_text.specs.Printed.{bits_text}
 use Rattle.vw_resume.specs.declared.fault.StateFault.{StateFault}
-use Rattle.vw_resume.specs.declared.fault.StateFault.TheVariants.{BadText, WrongLatches, TooManyClocks, NoMemory}
+use Rattle.vw_resume.specs.declared.fault.StateFault.TheVariants.{BadText, WrongLatches, TooManyClocks, TooFewClocks, NoMemory}
 use Rattle.vw_resume.specs.declared.state.State.{State}
 
 -- one line: the number of the next clock, how many latches there are, and the value of each before that clock
@@ -26,6 +26,7 @@ Refuses text wanted BadText = (state : State) → ¬ (Spells text state)
 Refuses text wanted (WrongLatches found others) =
     ((state : State) × Spells text state × (length state.latches ≡ found)) × (others ≡ wanted) × (found ≢ wanted)
 Refuses text wanted (TooManyClocks clocks) = ⊥
+Refuses text wanted (TooFewClocks found others) = ⊥
 Refuses text wanted NoMemory = ⊤
 
 -- whether a fault lies in the text; a number of clocks is that of a stimulus, too
@@ -33,6 +34,7 @@ abbrev pub is_text_fault : StateFault → Bool
 is_text_fault BadText = true
 is_text_fault (WrongLatches found wanted) = true
 is_text_fault (TooManyClocks clocks) = false
+is_text_fault (TooFewClocks found wanted) = false
 is_text_fault NoMemory = false
 
 -- why a text spells no state of so many latches

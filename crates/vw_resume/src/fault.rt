@@ -1,6 +1,6 @@
 ghost use Rattle.std.specs.Prelude.{◌≡◌, IfOk};
 ghost use Rattle.vw_resume.specs.Messages.{fault_text};
-ghost use Rattle.vw_resume.specs.declared.fault.StateFault.TheVariants.{WrongLatches};
+ghost use Rattle.vw_resume.specs.declared.fault.StateFault.TheVariants.{TooFewClocks, WrongLatches};
 
 use std::alloc::{AllocError, AllocFailed, Global};
 use thiserror::Error;
@@ -19,6 +19,10 @@ pub enum StateFault {
     /// for it; who goes on from a state looks for it.
     #[error("{0} clocks")]
     TooManyClocks(u64),
+    /// The stimulus has so many clocks, and the state comes after so many. No text is refused for it; who replays a stimulus
+    /// from a state on looks for it.
+    #[error("{0} clocks, wanted {1}")]
+    TooFewClocks(u64, u64),
     #[error("out of memory")]
     NoMemory,
 }
@@ -50,6 +54,13 @@ fn latches_line(alloc: Global, found: u32, wanted: u32) -> Result<Vec<u8>, Alloc
     Ok(format!(in alloc; "state 2: {found} latches, wanted {wanted}\n")?.into_bytes())
 }
 
+/// The line of a stimulus with too few clocks.
+fn clocks_line(alloc: Global, found: u64, wanted: u64) -> Result<Vec<u8>, AllocError>
+    ensures { IfOk result (λ line. line.items ≡ fault_text (TooFewClocks found wanted)) }
+{
+    Ok(format!(in alloc; "state 3: {found} clocks, wanted {wanted}\n")?.into_bytes())
+}
+
 impl StateFault {
     ghost use Rattle.vw_resume.specs.Messages.{fault_text};
 
@@ -66,6 +77,7 @@ impl StateFault {
                 clocks,
                 " clocks",
             ),
+            StateFault::TooFewClocks(found, wanted) => clocks_line(alloc, found, wanted),
             StateFault::NoMemory => b"out of memory\n".to_vec(alloc),
         }
     }

@@ -9,7 +9,7 @@ ghost use Rattle.vw_resume.specs.declared.fault.StateFault.{StateFault};
 ghost use Rattle.vw_resume.specs.declared.limits.TheConstants.{LONGEST_STATE};
 ghost use Rattle.vw_resume.specs.declared.state.State.{State};
 ghost use Rattle.vw_resume.specs.Joined.{IsJoined};
-ghost use Rattle.vw_resume.specs.Resumed.{resumed_trace};
+ghost use Rattle.vw_resume.specs.Resumed.{replayed_trace, resumed_trace};
 ghost use Rattle.vw_resume.specs.Saved.{saved_text};
 ghost use Rattle.vw_resume.specs.States.{IsBadState, Spells};
 
@@ -64,4 +64,15 @@ pub fn traces_join()
         (flat_trace probes unknown flat (rows ++ more)) }
 {
     histories_join();
+}
+
+/// The trace over the first rows, without its last line, and behind it what is replayed over all rows from the state after the
+/// first on, without its first line, is the trace over all.
+pub fn replays_join()
+    ensures { (probes : ℕ) (unknown : Bool) (flat : Flat) (rows more : List (List Bool))
+        → IsJoined (flat_trace probes unknown flat rows)
+        (replayed_trace probes flat (length rows) (state_after flat (start_values unknown flat.cells) rows) (rows ++ more))
+        (flat_trace probes unknown flat (rows ++ more)) }
+{
+    traces_join();
 }

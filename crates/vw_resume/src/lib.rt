@@ -8,16 +8,18 @@ mod laws;
 mod limits;
 mod reading;
 mod recorder;
+mod replaying;
 mod resuming;
 mod saving;
 mod state;
 
 pub use fault::StateFault;
 pub use laws::{
-    saved_texts_spell_states, spelled_short, state_faults_are_single, states_spell_once,
-    traces_join,
+    replays_join, saved_texts_spell_states, spelled_short, state_faults_are_single,
+    states_spell_once, traces_join,
 };
 pub use limits::LONGEST_STATE;
+pub use replaying::replay_trace;
 pub use resuming::{run_from, run_watched_from};
 pub use saving::{save, save_every};
 pub use state::State;

@@ -54,7 +54,7 @@ impl State {
 
     /// The state that a text spells, with this number of latches. `BadText` comes exactly where the text spells no state,
     /// and `WrongLatches`, with the number found and the number wanted, exactly where it spells one with another number of
-    /// latches; `TooManyClocks` never comes. The work is linear in the text. It takes memory for each latch and for the text
+    /// latches; `TooManyClocks` and `TooFewClocks` never come. The work is linear in the text. It takes memory for each latch and for the text
     /// once more, and none for a text that is longer than any state.
     pub fn read(alloc: Global, bytes: &[u8], latches: u32) -> Result<State, StateFault>
         ensures spells { IfOk result (λ state. Spells bytes.now state) }

@@ -1,4 +1,4 @@
-use Rattle.std.proofs.Common.{◌∙◌, ℕ, List, Bool, [], sym, ap, ap₂}
+use Rattle.std.proofs.Common.{◌∙◌, ℕ, List, Bool, [], sym, ap₂}
 use Rattle.std.proofs.lemmas.Result.{err_from_is_err_and}
 use Rattle.vw_net.specs.declared.flat.Flat.{Flat}
 use Rattle.vw_net.specs.Cells.{start_values}

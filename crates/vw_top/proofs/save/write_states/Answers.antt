@@ -1,4 +1,3 @@
-use Rattle.std.proofs.Common.{ap}
 use Rattle.vw_top.proofs.save.write_states.Goals as goal
 
 pub returns-in-Some-clause-streams : goal.returns-in-Some-clause-streams

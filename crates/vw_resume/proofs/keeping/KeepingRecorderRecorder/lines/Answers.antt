@@ -1,4 +1,4 @@
-use Rattle.std.proofs.Common.{◌∙◌, sym}
+use Rattle.std.proofs.Common.{◌∙◌}
 use Rattle.vw_resume.proofs.KeptStates.{kept_further}
 use Rattle.vw_resume.proofs.keeping.KeepingRecorderRecorder.lines.Goals as goal
 
