@@ -169,6 +169,19 @@ fn polished(
     Ok(plan)
 }
 
+/// From how many wires on a plan costs so much that there are few rounds.
+const MANY_WIRES: usize = 32_768;
+
+/// How many rounds follow a first plan: those that the design is worth, and two at most where there are very many wires, since
+/// each round makes a plan, and where most nets are cut it finds little.
+fn rounds_after(ordered: &Ordered, board: &Board, first: &Plan) -> u32 {
+    let worth = rounds(ordered, board);
+    if first.wires().len() < MANY_WIRES {
+        return worth;
+    }
+    worth.min(2)
+}
+
 /// The best of a good plan and of those that some rounds make that haven't more than so many wires. Each round has wishes that
 /// are made of the plan before it, also where that has more: then the next one looks less at paths and more at wires. Where
 /// eight in a row wish for nothing new, no further one does, since rounds repeat. Want of memory in a round is want of memory:
@@ -186,11 +199,12 @@ fn refined(
     ensures good { IfOk result (λ plan. IsGood (planned_board ordered.now board.now plan)) }
     ensures fault { IfErr result (IsCompileFault ordered.now board.now) }
 {
+    let rounds = rounds_after(ordered, board, &first);
     let mut last = first.chip_of().to_vec(alloc)?;
     let mut best = first;
     let mut urgency = Urgency::first();
     let mut still: u32 = 0;
-    for round in 0..rounds(ordered, board) {
+    for round in 0..rounds {
         if still == 8 {
             break;
         }
