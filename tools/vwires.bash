@@ -21,7 +21,7 @@ _vwires() {
     case ${COMP_WORDS[1]} in
         sim) settings='unknown= probe=' ;;
         wave) settings='unknown= probe=' ;;
-        grade) settings='workers= unknown=' ;;
+        grade) settings='workers= unknown= part=' ;;
         nets) settings='probe=' ;;
         check) settings='probe=' ;;
         plan) settings='chips= probe=' ;;

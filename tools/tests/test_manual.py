@@ -38,7 +38,8 @@ class Manual(Case):
     @unittest.skipUnless(shutil.which("groff"), "no groff")
     def test_the_man_page_has_no_fault(self):
         page = self.printed("groff", "-man", "-Tascii", "-P-c", "-ww", TOOLS / "vwires.1")
-        self.assertIn("resume DESIGN BOARD STATE STIM [plan=FILE]", re.sub(".\b", "", page))
+        # lines are spread to both margins
+        self.assertIn("resume DESIGN BOARD STATE STIM [plan=FILE]", re.sub(" +", " ", re.sub(".\b", "", page)))
 
 
 @unittest.skipUnless(shutil.which("bash"), "no bash")

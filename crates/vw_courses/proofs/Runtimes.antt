@@ -23,7 +23,7 @@ plain_needs_none plain.Version = refl
 plain_needs_none (plain.Nothing place) = refl
 
 pub runtime_needs_one : (command : RuntimeCommand) → needs_runtime (runtime_view command) ≡ true
-runtime_needs_one (runtime.Grade design stimulus workers unknown) = refl
+runtime_needs_one (runtime.Grade design stimulus settings) = refl
 runtime_needs_one (runtime.Run its several) = lt-ltb 1 several.workers several.several
 runtime_needs_one (runtime.Save design board stimulus plan workers unknown every) = refl
 runtime_needs_one (runtime.Resume design board state stimulus plan workers probes) = refl

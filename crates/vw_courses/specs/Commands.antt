@@ -13,6 +13,7 @@ use Rattle.vw_design.specs.PathHistory.{path_history}
 use Rattle.vw_front.specs.Designs.{WatchedDesign}
 use Rattle.vw_front.specs.Names.{signal_names}
 use Rattle.vw_front.specs.declared.named.NamedNetlist.{NamedNetlist}
+use Rattle.vw_fault.specs.Shares.{share_text}
 use Rattle.vw_fault.specs.Text.{grading_text}
 use Rattle.vw_listing.specs.Netlist.{netlist_text}
 use Rattle.vw_course.specs.Course.{again, Course, works, refuses, writes, Judged, judges, made, stage}
@@ -133,21 +134,26 @@ wave_course probes design stimulus unknown = over_design_course probes design st
 
 -- ---- grade
 
--- the grading of a netlist whose nets are printed so over rows, where free latches start at `unknown`
-abbrev pub flat_grading : List ProbeWord → Bool → Flat → List (List Bool) → List ℕ
-flat_grading names unknown flat rows = grading_text names flat (start_values unknown flat.cells) rows
+-- the grading of a netlist whose nets are printed so: of all its faults, or of a share of them, by its number and how many there are
+abbrev pub graded_text : Option (ℕ × ℕ) → List ProbeWord → Flat → List Bool → List (List Bool) → List ℕ
+graded_text None names flat start rows = grading_text names flat start rows
+graded_text (Some share) names flat start rows = share_text share.0 share.1 names flat start rows
+
+-- the same over rows, where free latches start at `unknown`
+abbrev pub flat_grading : Option (ℕ × ℕ) → List ProbeWord → Bool → Flat → List (List Bool) → List ℕ
+flat_grading share names unknown flat rows = graded_text share names flat (start_values unknown flat.cells) rows
 
 -- that of the netlist of a design, with its names. It knows nothing of workers
-abbrev pub grading_of : Bool → TextOver NamedNetlist
-grading_of unknown named = flat_grading named.nets unknown named.ordered.flat
+abbrev pub grading_of : Option (ℕ × ℕ) → Bool → TextOver NamedNetlist
+grading_of share unknown named = flat_grading share named.nets unknown named.ordered.flat
 
 -- it is written over the rows of the stimulus
-abbrev pub grading_course : List ℕ → Bool → NamedNetlist → Course vocabulary
-grading_course stimulus unknown named = rows_course stimulus named.ordered.flat.inputs (grading_of unknown named) no_links
+abbrev pub grading_course : Option (ℕ × ℕ) → List ℕ → Bool → NamedNetlist → Course vocabulary
+grading_course share stimulus unknown named = rows_course stimulus named.ordered.flat.inputs (grading_of share unknown named) no_links
 
 -- the design first; no net is watched
-abbrev pub grade_course : List ℕ → List ℕ → Bool → Course vocabulary
-grade_course design stimulus unknown = stage (named_kind []) design (grading_course stimulus unknown)
+abbrev pub grade_course : Option (ℕ × ℕ) → List ℕ → List ℕ → Bool → Course vocabulary
+grade_course share design stimulus unknown = stage (named_kind []) design (grading_course share stimulus unknown)
 
 -- ---- nets
 
@@ -324,7 +330,7 @@ course_of (words.run design board stimulus given workers unknown probes) =
     run_course probes design board (by_file given) stimulus workers unknown
 course_of (words.demo cells workers) = demo_course cells workers
 course_of (words.wave design stimulus unknown probes) = wave_course probes design stimulus unknown
-course_of (words.grade design stimulus workers unknown) = grade_course design stimulus unknown
+course_of (words.grade design stimulus workers unknown share) = grade_course share design stimulus unknown
 course_of (words.nets design probes) = nets_course probes design
 course_of (words.save design board stimulus given workers unknown every) =
     save_course design board (by_file given) stimulus workers unknown every

@@ -13,9 +13,8 @@ help_text = lines_text (
     codes "  wave DESIGN STIM            runs a design, and writes its waveform (VCD)" ∷
     codes "      [unknown=0|1] [probe=NET].." ∷
     codes "  grade DESIGN STIM           writes which stuck nets a stimulus does not reveal" ∷
-    codes "      [workers=N] [unknown=0|1]" ∷
-    codes "  nets DESIGN                 writes the nets and the cells of a design" ∷
-    codes "      [probe=NET].." ∷
+    codes "      [workers=N] [unknown=0|1] [part=K/N]" ∷
+    codes "  nets DESIGN [probe=NET]..   writes the nets and the cells of a design" ∷
     codes "  check DESIGN BOARD PLAN     checks a plan, and writes its size" ∷
     codes "      [probe=NET].." ∷
     codes "  plan DESIGN BOARD           makes a plan, and writes it" ∷
@@ -26,11 +25,9 @@ help_text = lines_text (
     codes "      [plan=FILE] [workers=N] [unknown=0|1] [probe=NET].." ∷
     codes "  save DESIGN BOARD STIM      runs a design on a board, and writes its state" ∷
     codes "      [plan=FILE] [workers=N] [unknown=0|1] [every=N]" ∷
-    codes "  resume DESIGN BOARD STATE STIM" ∷
-    codes "                              goes on from a state, and writes the trace" ∷
+    codes "  resume DESIGN BOARD STATE STIM  goes on from a state, and writes the trace" ∷
     codes "      [plan=FILE] [workers=N] [unknown=0|1] [probe=NET].." ∷
-    codes "  emit DESIGN BOARD           writes a planned board as a design in BLIF" ∷
-    codes "      [plan=FILE]" ∷
+    codes "  emit DESIGN BOARD [plan=FILE]  writes a planned board as a design in BLIF" ∷
     codes "  demo CELLS                  runs a generated design of 1 to 20000 cells on" ∷
     codes "      [workers=N]             a generated board, and writes a summary" ∷
     codes "  --help                      writes this text" ∷
@@ -47,6 +44,7 @@ help_text = lines_text (
     codes "  plan=FILE      the plan to run by (one is made)" ∷
     codes "  chips=FILE     the chip of each cell, as in a plan (they are chosen)" ∷
     codes "  every=N        a state for each N clocks, too (only one at the end)" ∷
+    codes "  part=K/N       the Kth of N shares of the faults, N up to 65536 (all)" ∷
     codes "  workers=N      how many threads run the chips or grade, 1 to 64 (4)" ∷
     codes "" ∷
     codes "The exit status is 0 where the command was carried out. A design (1), words" ∷

@@ -1,7 +1,7 @@
 -- What the words of a command line spell: a keyword, names of files, and then settings.
 use Rattle.std.specs.Prelude.{ℕ, max, min, ltb, Bool, true, false, List, [], ◌∷◌, map, take, codes, Option, Some, None, option_map, option_and_then, unwrap_or}
 use Rattle.std.specs.List.{find}
-use Rattle.vw_words.specs.Forms.{Place, keyword, any, name, bit, number, Setting, Form}
+use Rattle.vw_words.specs.Forms.{Place, keyword, any, name, bit, number, part, part_number, part_count, Setting, Form}
 use Rattle.vw_words.specs.Matched.{has_form, first_wrong}
 use Rattle.vw_words.specs.Values.{names_given, name_given, bit_given, number_given, number_or_zero}
 use Rattle.vw_courses.specs.declared.forms.Verb.{Verb}
@@ -11,7 +11,7 @@ use Rattle.vw_courses.specs.declared.forms.Verb.TheVariants as verbs
 pub data Spelled : Type 0 where
   sim : (design stimulus : List ℕ) (unknown : Bool) (probes : List (List ℕ)) → Spelled
   wave : (design stimulus : List ℕ) (unknown : Bool) (probes : List (List ℕ)) → Spelled
-  grade : (design stimulus : List ℕ) (workers : ℕ) (unknown : Bool) → Spelled
+  grade : (design stimulus : List ℕ) (workers : ℕ) (unknown : Bool) (share : Option (ℕ × ℕ)) → Spelled
   nets : (design : List ℕ) (probes : List (List ℕ)) → Spelled
   check : (design board plan : List ℕ) (probes : List (List ℕ)) → Spelled
   plan : (design board : List ℕ) (chips : Option (List ℕ)) (probes : List (List ℕ)) → Spelled
@@ -51,6 +51,10 @@ workers_setting = record { name = codes "workers"; value = number 1 64; times = 
 abbrev pub every_setting : Setting
 every_setting = record { name = codes "every"; value = number 1 4294967295; times = 1 }
 
+-- a share of the faults that are graded, of so many
+abbrev pub part_setting : Setting
+part_setting = record { name = codes "part"; value = part 65536; times = 1 }
+
 -- the value of latches that start unknown: 0 where none is given
 abbrev pub unknown_given : List (List ℕ) → Bool
 unknown_given settings = bit_given unknown_setting false settings
@@ -66,6 +70,17 @@ workers_given settings = max 1 (number_given workers_setting 4 settings)
 -- where no word says so, no state is kept on the way; the form lets no other number through than 1 to 4294967295
 abbrev pub every_given : List (List ℕ) → Option ℕ
 every_given settings = option_map (λ word. max 1 (number_or_zero word)) (name_given every_setting settings)
+
+-- how many shares a text spells, and the number of the one that is meant, from 1
+abbrev pub shares_in : List ℕ → ℕ
+shares_in text = max 1 (min (part_count text) 65536)
+
+abbrev pub share_in : List ℕ → ℕ
+share_in text = max 1 (min (part_number text) (shares_in text))
+
+-- where no word says so, all faults are graded; the form lets no other share through than 1 to their number, which is at most 65536
+abbrev pub share_given : List (List ℕ) → Option (ℕ × ℕ)
+share_given settings = option_map (λ text. (share_in text, shares_in text)) (name_given part_setting settings)
 
 -- the number of cells that a word spells: the form lets no other number through than 1 to 20000
 abbrev pub cells_given : List ℕ → ℕ
@@ -85,7 +100,7 @@ wave_of words = None
 
 -- what words of the form of `grade` spell
 abbrev pub grade_of : List (List ℕ) → Option Spelled
-grade_of (verb ∷ design ∷ stimulus ∷ settings) = Some (grade design stimulus (workers_given settings) (unknown_given settings))
+grade_of (verb ∷ design ∷ stimulus ∷ settings) = Some (grade design stimulus (workers_given settings) (unknown_given settings) (share_given settings))
 grade_of words = None
 
 -- what words of the form of `nets` spell
@@ -173,7 +188,7 @@ abbrev pub commands : List CommandForm
 commands =
     record { verb = verbs.Sim; form = form_with (codes "sim") (file ∷ file ∷ []) (unknown_setting ∷ probe_setting ∷ []) }
     ∷ record { verb = verbs.Wave; form = form_with (codes "wave") (file ∷ file ∷ []) (unknown_setting ∷ probe_setting ∷ []) }
-    ∷ record { verb = verbs.Grade; form = form_with (codes "grade") (file ∷ file ∷ []) (workers_setting ∷ unknown_setting ∷ []) }
+    ∷ record { verb = verbs.Grade; form = form_with (codes "grade") (file ∷ file ∷ []) (workers_setting ∷ unknown_setting ∷ part_setting ∷ []) }
     ∷ record { verb = verbs.Nets; form = form_with (codes "nets") (file ∷ []) (probe_setting ∷ []) }
     ∷ record { verb = verbs.Check; form = form_with (codes "check") (file ∷ file ∷ file ∷ []) (probe_setting ∷ []) }
     ∷ record { verb = verbs.Plan; form = form_with (codes "plan") (file ∷ file ∷ []) (chips_setting ∷ probe_setting ∷ []) }
@@ -213,7 +228,7 @@ spelled_by words =
 abbrev pub needs_runtime : Spelled → Bool
 needs_runtime (run design board stimulus given workers unknown probes) = ltb 1 workers
 needs_runtime (demo cells workers) = ltb 1 workers
-needs_runtime (grade design stimulus workers unknown) = true
+needs_runtime (grade design stimulus workers unknown share) = true
 needs_runtime (save design board stimulus given workers unknown every) = true
 needs_runtime (resume design board state stimulus given workers probes) = true
 needs_runtime (sim design stimulus unknown probes) = false
@@ -235,7 +250,7 @@ uses_links (save design board stimulus given workers unknown every) = ltb 1 work
 uses_links (resume design board state stimulus given workers probes) = ltb 1 workers
 uses_links (sim design stimulus unknown probes) = false
 uses_links (wave design stimulus unknown probes) = false
-uses_links (grade design stimulus workers unknown) = false
+uses_links (grade design stimulus workers unknown share) = false
 uses_links (nets design probes) = false
 uses_links (check design board given probes) = false
 uses_links (plan design board chips probes) = false

@@ -2,6 +2,7 @@
 ghost use Rattle.std.specs.Prelude.{◌<◌};
 
 use crate::size::Size;
+use vw_fault::Share;
 use vw_outside::Name;
 use vw_words::Names;
 
@@ -19,6 +20,17 @@ pub struct Interval {
     /// How many they are.
     pub clocks: u64,
     ghost some: { 0 < clocks },
+}
+
+/// The settings of a grading.
+#[derive(Clone, Copy)]
+pub struct GradeSettings {
+    /// How many workers grade.
+    pub workers: u64,
+    /// The value that free latches start at.
+    pub unknown: bool,
+    /// The share of the faults that is graded, where not all are.
+    pub share: Option<Share>,
 }
 
 /// The files and settings of a run but for its workers.
@@ -115,10 +127,7 @@ pub enum RuntimeCommand<'a> {
     Grade {
         design: &'a Name,
         stimulus: &'a Name,
-        /// How many workers grade.
-        workers: u64,
-        /// The value that free latches start at.
-        unknown: bool,
+        settings: GradeSettings,
     },
     /// Runs a design on a board over a stimulus by several workers, and writes its trace.
     Run {

@@ -71,6 +71,16 @@ pub const EVERY: Setting = Setting {
     times: 1,
 };
 
+/// How many shares the faults are cut into at most.
+pub const MOST_SHARES: u64 = 65_536;
+
+/// A share of the faults that are graded, of so many.
+pub const PART: Setting = Setting {
+    name: b"part",
+    value: Value::Part { most: 65_536 },
+    times: 1,
+};
+
 /// How many do where none are given.
 pub const DEFAULT_WORKERS: u64 = 4;
 
@@ -89,10 +99,10 @@ const WAVE: Form = Form {
     settings: &[UNKNOWN, PROBE],
 };
 
-/// grade DESIGN STIM [workers=N] [unknown=0|1]
+/// grade DESIGN STIM [workers=N] [unknown=0|1] [part=K/N]
 const GRADE: Form = Form {
     places: &[Place::Keyword(b"grade"), FILE, FILE],
-    settings: &[WORKERS, UNKNOWN],
+    settings: &[WORKERS, UNKNOWN, PART],
 };
 
 /// nets DESIGN [probe=NET]..

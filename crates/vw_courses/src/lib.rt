@@ -8,7 +8,9 @@ mod size;
 mod vocabulary;
 mod words;
 
-pub use command::{Command, Interval, PlainCommand, RunWords, RuntimeCommand, Several};
+pub use command::{
+    Command, GradeSettings, Interval, PlainCommand, RunWords, RuntimeCommand, Several,
+};
 pub use size::Size;
 pub use vocabulary::{File, Reason, Unfinished};
 pub use words::{command_of, probes_of};

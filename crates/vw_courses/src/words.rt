@@ -1,21 +1,24 @@
 ghost use Rattle.std.specs.Prelude.{◌≡◌, ◌≤◌, IfOk, length, map, option_and_then, option_map, take};
 ghost use Rattle.std.specs.Option.{option_map_or};
 ghost use Rattle.vw_courses.specs.Words.{spelled_as, spelled_by, found_verb, sim_of, wave_of, grade_of, nets_of, check_of, plan_of, report_of, run_of, save_of, resume_of, emit_of, demo_of, cells_given};
-ghost use Rattle.vw_courses.specs.Words.{plan_setting, demo as spelled_demo, probes_given, run as spelled_run, every_given, unknown_given, workers_given};
+ghost use Rattle.vw_courses.specs.Words.{plan_setting, demo as spelled_demo, probes_given, run as spelled_run, every_given, share_given, unknown_given, workers_given};
 ghost use Rattle.vw_courses.specs.declared.forms.TheConstants.{MOST_PROBES};
 ghost use Rattle.vw_courses.specs.Steps.Commands.{command_form, command_view};
 ghost use Rattle.vw_words.specs.Values.{name_given};
 
-use crate::command::{Command, Interval, PlainCommand, RunWords, RuntimeCommand, Several};
+use crate::command::{
+    Command, GradeSettings, Interval, PlainCommand, RunWords, RuntimeCommand, Several,
+};
 use crate::forms::{
-    CHIPS, COMMANDS, DEFAULT_WORKERS, EVERY, MOST_CELLS, MOST_PROBES, PLAN, PROBE, UNKNOWN, Verb,
-    WORKERS,
+    CHIPS, COMMANDS, DEFAULT_WORKERS, EVERY, MOST_CELLS, MOST_PROBES, MOST_SHARES, PART, PLAN,
+    PROBE, UNKNOWN, Verb, WORKERS,
 };
 use crate::size::Size;
 use std::alloc::{AllocError, Global};
+use vw_fault::Share;
 use vw_outside::Name;
 use vw_text::number_in;
-use vw_words::{Entry, Names, first_wrong, number_or_zero};
+use vw_words::{Entry, Names, first_wrong, number_or_zero, part_in};
 
 /// How many workers the settings ask for. The form of the words lets no other number through than 1 to 64.
 fn workers_in(settings: &[Name]) -> u64
@@ -45,6 +48,24 @@ fn every_in(settings: &[Name]) -> Option<Interval>
         Some(value) => Some(Interval {
             clocks: number_in(value).unwrap_or(0).max(1),
         }),
+        None => None,
+    }
+}
+
+/// The share of the faults that the settings ask for, where they do. The form of the words lets no other through than 1 to the
+/// number of shares, and no more shares than 65,536.
+fn share_in(settings: &[Name]) -> Option<Share>
+    ensures { option_map (λ share. (share.number, share.shares)) result ≡ share_given settings.now }
+{
+    match PART.name(settings) {
+        Some(text) => {
+            let (number, count) = part_in(text);
+            let shares = count.min(MOST_SHARES).max(1);
+            Some(Share {
+                number: number.min(shares).max(1),
+                shares,
+            })
+        }
         None => None,
     }
 }
@@ -87,8 +108,11 @@ fn grade_of(words: &[Name]) -> Option<Command<'_>>
         [_, design, stimulus, settings @ ..] => Some(Command::OnRuntime(RuntimeCommand::Grade {
             design,
             stimulus,
-            workers: workers_in(settings),
-            unknown: UNKNOWN.bit(settings, false),
+            settings: GradeSettings {
+                workers: workers_in(settings),
+                unknown: UNKNOWN.bit(settings, false),
+                share: share_in(settings),
+            },
         })),
         _ => None,
     }

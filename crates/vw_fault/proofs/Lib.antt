@@ -12,3 +12,5 @@ pub mod Groups
 pub mod Rounds
 pub mod Marks
 pub mod Texts
+mod Shares
+mod ShareCuts

@@ -15,7 +15,7 @@ open_within flat start rows =
     let nets = flat.inputs + length flat.cells in
     All-filter (λ (fault : Open). not (is_detected flat start rows fault)) (λ (fault : Open). fault.net < nets) (gather net_faults nets) (faults_within nets)
 
-fewer : (test : Open → Bool) (faults : List Open) → length (filter test faults) ≤ length faults
+pub fewer : (test : Open → Bool) (faults : List Open) → length (filter test faults) ≤ length faults
 fewer test [] = omega arith
 fewer test (fault ∷ faults) = by (test fault) (fewer test faults) where
   by : (passes : Bool) → length (filter test faults) ≤ length faults
@@ -23,7 +23,7 @@ fewer test (fault ∷ faults) = by (test fault) (fewer test faults) where
   by true few = omega (arith, few)
   by false few = omega (arith, few)
 
-two_each : (nets : ℕ) → length (gather net_faults nets) ≡ 2 * nets
+pub two_each : (nets : ℕ) → length (gather net_faults nets) ≡ 2 * nets
 two_each zero = refl
 two_each (suc nets) = omega (arith, two_each nets, length-append (gather net_faults nets) (net_faults nets))
 

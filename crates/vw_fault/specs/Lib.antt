@@ -3,3 +3,4 @@ pub mod Stuck
 pub mod Reached
 pub mod Steps
 pub mod Text
+pub mod Shares

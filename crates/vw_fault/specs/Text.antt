@@ -13,13 +13,13 @@ head_line faults detected = codes "grade 1 " ++ (decimal faults ++ 32 ∷ decima
 abbrev pub open_line : List ℕ → Bool → List ℕ
 open_line net bit = codes "open " ++ (net ++ (if bit then codes " 1" else codes " 0"))
 
--- the line of each of them, by the printed nets, and the whole text
+-- the line of each of them, by the printed nets, and the whole text, of so many faults
 abbrev pub open_lines : List (List ℕ) → List Open → List (List ℕ)
 open_lines names faults = map (λ fault. open_line (slice_index_or names fault.net []) fault.bit) faults
 
-abbrev pub grading_lines : List (List ℕ) → List Open → List (List ℕ)
-grading_lines names faults = head_line (2 * length names) (2 * length names - length faults) ∷ (open_lines names faults ++ codes "end" ∷ [])
+abbrev pub grading_lines : List (List ℕ) → ℕ → List Open → List (List ℕ)
+grading_lines names count left = head_line count (count - length left) ∷ (open_lines names left ++ codes "end" ∷ [])
 
 -- the text of what rows don't reveal of a netlist with these printed nets
 abbrev pub grading_text : List (List ℕ) → Flat → List Bool → List (List Bool) → List ℕ
-grading_text names flat start rows = lines_text (grading_lines names (open_faults flat start rows))
+grading_text names flat start rows = lines_text (grading_lines names (2 * length names) (open_faults flat start rows))

@@ -11,6 +11,7 @@ mod open;
 mod outputs;
 mod passes;
 mod reached;
+mod share;
 mod stuck;
 mod table;
 mod text;
@@ -18,9 +19,10 @@ mod words;
 mod workers;
 
 pub use laws::{
-    first_rows_reveal, nothing_is_stuck, open_faults_change_no_output, unreached_nets_are_open,
-    unread_nets_are_open,
+    first_rows_reveal, nothing_is_stuck, open_faults_change_no_output, shares_join,
+    unreached_nets_are_open, unread_nets_are_open,
 };
 pub use open::Open;
-pub use passes::grade;
-pub use text::grading_text;
+pub use passes::{GradedShare, grade, grade_share};
+pub use share::Share;
+pub use text::{grading_text, share_text};

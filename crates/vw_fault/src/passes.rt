@@ -4,6 +4,7 @@ ghost use Rattle.std.specs.List.{All};
 ghost use Rattle.vw_net.specs.Cells.{latch_count};
 ghost use Rattle.vw_net.specs.Gathered.{gather};
 ghost use Rattle.vw_fault.specs.Steps.Groups.{net_count, open_of, rows_of};
+ghost use Rattle.vw_fault.specs.Shares.{open_shared, shared_faults};
 ghost use Rattle.vw_fault.specs.Stuck.{net_faults, open_faults};
 
 use crate::grading::Grading;
@@ -11,6 +12,7 @@ use crate::merged::{marked_faults, with_unmarked};
 use crate::open::Open;
 use crate::outputs::plain_outputs;
 use crate::reached::reached_nets;
+use crate::share::Share;
 use crate::workers::open_among;
 use std::alloc::{AllocError, Global};
 use std::marker::Sync;
@@ -48,6 +50,50 @@ pub fn grade<R: Threads + Sync>(
         count: rows.len(),
     };
     open_with_unreached(rt, alloc, &grading, &faults, workers)
+}
+
+/// What rows don't reveal of a share of the faults.
+#[derive(Drop)]
+pub struct GradedShare {
+    /// How many faults the share has.
+    pub count: usize,
+    /// Those that the rows don't reveal.
+    pub left: Vec<Open>,
+}
+
+/// The stuck nets of a share that the rows don't reveal, and how many the share has. All else is as in `grade`.
+pub fn grade_share<R: Threads + Sync>(
+    rt: &R,
+    alloc: Global,
+    ordered: &Ordered,
+    share: Share,
+    start: &Bits,
+    rows: &Rows,
+    workers: u32,
+) -> Result<GradedShare, AllocError>
+    requires latches { length start.now ≡ latch_count ordered.now.flat.cells }
+    requires columns { All (λ row. length row ≡ ordered.now.flat.inputs) rows.now }
+    requires workers { (1 ≤ workers) × (workers ≤ 64) }
+    ensures count { IfOk result (λ graded. graded.count
+        ≡ length (shared_faults share.number share.shares ordered.now.flat)) }
+    ensures left { IfOk result (λ graded. graded.left.items
+        ≡ open_shared share.number share.shares ordered.now.flat start.now rows.now) }
+{
+    let flat = ordered.flat();
+    let all = all_faults(alloc, flat.inputs() + flat.cells().len() as u32)?;
+    let faults = share.of(&all);
+    let plain = plain_outputs(alloc, ordered, start, rows)?;
+    let grading = Grading {
+        ordered,
+        start,
+        rows,
+        plain: &plain,
+        count: rows.len(),
+    };
+    Ok(GradedShare {
+        count: faults.len(),
+        left: open_with_unreached(rt, alloc, &grading, faults, workers)?,
+    })
 }
 
 /// The faults that the rows don't reveal. Those of nets that reach no output aren't run.

@@ -3,10 +3,12 @@ ghost use Rattle.std.specs.Prelude.{◌≡◌, ◌<◌, ◌≤◌, ◌+◌, ◌*
 ghost use Rattle.std.specs.List.{All};
 ghost use Rattle.vw_net.specs.Cells.{latch_count};
 ghost use Rattle.vw_text.specs.Physical.{lines_text};
+ghost use Rattle.vw_fault.specs.Shares.{share_text};
 ghost use Rattle.vw_fault.specs.Text.{head_line, open_line, open_lines, grading_lines, grading_text};
 
 use crate::open::Open;
-use crate::passes::grade;
+use crate::passes::{grade, grade_share};
+use crate::share::Share;
 use std::alloc::{AllocError, Global};
 use std::marker::Sync;
 use std::thread::Threads;
@@ -52,16 +54,20 @@ fn push_all(text: &mut Vec<u8>, names: &[Name], faults: &[Open]) -> Result<(), A
     Ok(())
 }
 
-/// The text of the faults that rows don't reveal: how many faults there are, and how many of them are revealed; a line for each
-/// that isn't, with its net as it is printed; and the end. `names` are the printed nets, each with two faults.
-pub fn text_of(alloc: Global, names: &[Name], left: &[Open]) -> Result<Vec<u8>, AllocError>
+/// The text of those of so many faults that rows don't reveal: how many faults there are, and how many of them are revealed; a
+/// line for each that isn't, with its net as it is printed; and the end. `names` are the printed nets.
+pub fn text_of(
+    alloc: Global,
+    names: &[Name],
+    count: u64,
+    left: &[Open],
+) -> Result<Vec<u8>, AllocError>
     requires named { All (λ fault. fault.net < length names.now) left.now }
-    requires few { length left.now ≤ 2 * length names.now }
-    ensures { IfOk result (λ text. text.items ≡ lines_text (grading_lines names.now left.now)) }
+    requires few { length left.now ≤ count }
+    ensures { IfOk result (λ text. text.items ≡ lines_text (grading_lines names.now count left.now)) }
 {
-    let faults = names.len() as u64 * 2;
     let mut text = Vec::new(alloc);
-    push_head(&mut text, faults, faults - left.len() as u64)?;
+    push_head(&mut text, count, count - left.len() as u64)?;
     push_all(&mut text, names, left)?;
     text.extend_from_slice(b"end\n")?;
     Ok(text)
@@ -86,5 +92,28 @@ pub fn grading_text<R: Threads + Sync>(
         ≡ grading_text names.now ordered.now.flat start.now rows.now) }
 {
     let left = grade(rt, alloc, ordered, start, rows, workers)?;
-    text_of(alloc, names, &left)
+    text_of(alloc, names, names.len() as u64 * 2, &left)
+}
+
+/// The text of the grading of a share of the faults of such a netlist, by so many workers at most.
+pub fn share_text<R: Threads + Sync>(
+    rt: &R,
+    alloc: Global,
+    ordered: &Ordered,
+    names: &[Name],
+    share: Share,
+    start: &Bits,
+    rows: &Rows,
+    workers: u32,
+) -> Result<Vec<u8>, AllocError>
+    requires names { length names.now
+        ≡ ordered.now.flat.inputs + length ordered.now.flat.cells }
+    requires latches { length start.now ≡ latch_count ordered.now.flat.cells }
+    requires columns { All (λ row. length row ≡ ordered.now.flat.inputs) rows.now }
+    requires workers { (1 ≤ workers) × (workers ≤ 64) }
+    ensures { IfOk result (λ text. text.items
+        ≡ share_text share.number share.shares names.now ordered.now.flat start.now rows.now) }
+{
+    let graded = grade_share(rt, alloc, ordered, share, start, rows, workers)?;
+    text_of(alloc, names, graded.count as u64, &graded.left)
 }

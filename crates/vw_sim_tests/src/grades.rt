@@ -67,6 +67,81 @@ fn any_number_of_workers_write_the_grading(rt: HostRuntime) -> Result<(), Fail> 
     all_end_on(&rt, alloc, &GRADES, EMPTY, Fault::None, empty)
 }
 
+/// The toggle has six faults: `en`, `d` and `q`, each at 0 and at 1. The second of them is open.
+#[test]
+fn a_share_is_graded_by_itself(rt: HostRuntime) -> Result<(), Fail> {
+    const SHARES: &[(&[&str], &str)] = &[
+        (&["grade", "d", "s", "part=1/1"], TOGGLE_GRADE),
+        (
+            &["grade", "d", "s", "part=1/2"],
+            "grade 1 3 2\nopen en 1\nend\n",
+        ),
+        (&["grade", "d", "s", "part=2/2"], "grade 1 3 3\nend\n"),
+        (&["grade", "d", "s", "part=1/4"], "grade 1 1 1\nend\n"),
+        (
+            &["grade", "d", "s", "part=2/4"],
+            "grade 1 2 1\nopen en 1\nend\n",
+        ),
+        (&["grade", "d", "s", "part=3/4"], "grade 1 1 1\nend\n"),
+        (
+            &["grade", "d", "s", "part=4/4", "workers=1"],
+            "grade 1 2 2\nend\n",
+        ),
+        (&["grade", "d", "s", "part=1/7"], "grade 1 0 0\nend\n"),
+        (
+            &["grade", "d", "s", "workers=3", "part=3/7"],
+            "grade 1 1 0\nopen en 1\nend\n",
+        ),
+        (&["grade", "d", "s", "part=1/65536"], "grade 1 0 0\nend\n"),
+        (
+            &["grade", "d", "s", "part=65536/65536"],
+            "grade 1 1 1\nend\n",
+        ),
+    ];
+    let alloc = rt.alloc();
+    for (words, text) in SHARES {
+        ends_on(&rt, alloc, words, TOGGLE_RUN, Fault::None, End::done(text))?;
+    }
+    Ok(())
+}
+
+/// The open lines of all shares of the grading of a generated design, one share behind the other.
+fn joined<R: Threads + Wait + Copy + Send + Sync>(
+    rt: &R,
+    alloc: Global,
+    design: &str,
+    rows: &str,
+    shares: u32,
+) -> Result<Vec<u8>, Fail> {
+    let texts = [("d", design), ("s", rows)];
+    let mut lines = Vec::new(alloc);
+    for before in 0..shares {
+        let number = before.wrapping_add(1);
+        let part = format!(in alloc; "part={number}/{shares}")?;
+        let text = written_on(rt, alloc, &["grade", "d", "s", part.as_str()], &texts)?;
+        for line in text.as_bytes().split(|byte| *byte == b'\n') {
+            if line.starts_with(b"open ") {
+                lines.extend_from_slice(line)?;
+                lines.push(b'\n')?;
+            }
+        }
+    }
+    Ok(lines)
+}
+
+#[test]
+fn shares_of_a_generated_design_join(rt: HostRuntime) -> Result<(), Fail> {
+    let alloc = rt.alloc();
+    let (design, rows) = demonstrated(alloc, 100)?;
+    let whole = joined(&rt, alloc, design.as_str(), rows.as_str(), 1)?;
+    assert_eq!(&rt; whole.is_empty(), false);
+    for shares in [2u32, 7, 64, 300] {
+        let found = joined(&rt, alloc, design.as_str(), rows.as_str(), shares)?;
+        are_found(found.as_slice(), whole.as_slice(), "shares")?;
+    }
+    Ok(())
+}
+
 /// A latch that keeps its value: a stuck net shows where it is stuck at the other one.
 #[test]
 fn free_latches_of_a_grading_start_as_the_setting_says(rt: HostRuntime) -> Result<(), Fail> {
@@ -168,6 +243,31 @@ fn a_grading_needs_a_runtime(rt: HostRuntime) -> Result<(), Fail> {
         (&["grade", "d", "s", "probe=q"], 2, "", "usage: word 4\n"),
         (&["grade", "d", "s", "workers=0"], 2, "", "usage: word 4\n"),
         (&["grade", "d", "s", "workers=65"], 2, "", "usage: word 4\n"),
+        (&["grade", "d", "s", "part=1/1"], SEVERAL, "", ""),
+        (&["grade", "d", "s", "part=65536/65536"], SEVERAL, "", ""),
+        (&["grade", "d", "s", "part="], 2, "", "usage: word 4\n"),
+        (&["grade", "d", "s", "part=1"], 2, "", "usage: word 4\n"),
+        (&["grade", "d", "s", "part=/1"], 2, "", "usage: word 4\n"),
+        (&["grade", "d", "s", "part=1/"], 2, "", "usage: word 4\n"),
+        (&["grade", "d", "s", "part=0/1"], 2, "", "usage: word 4\n"),
+        (&["grade", "d", "s", "part=0/0"], 2, "", "usage: word 4\n"),
+        (&["grade", "d", "s", "part=2/1"], 2, "", "usage: word 4\n"),
+        (&["grade", "d", "s", "part=01/2"], 2, "", "usage: word 4\n"),
+        (&["grade", "d", "s", "part=1/2/3"], 2, "", "usage: word 4\n"),
+        (&["grade", "d", "s", "part=1 /2"], 2, "", "usage: word 4\n"),
+        (
+            &["grade", "d", "s", "part=1/65537"],
+            2,
+            "",
+            "usage: word 4\n",
+        ),
+        (
+            &["grade", "d", "s", "part=1/2", "part=2/2"],
+            2,
+            "",
+            "usage: word 5\n",
+        ),
+        (&["sim", "d", "s", "part=1/2"], 2, "", "usage: word 4\n"),
     ];
     words_end(rt.alloc(), TOGGLE_RUN, WORDS)
 }

@@ -66,8 +66,8 @@ promised show (words.sim design stimulus unknown probes) call is status = λ d s
 promised show (words.wave design stimulus unknown probes) call is status = λ d s design_held stimulus_held.
     writes_over probes (wave_of probes unknown) design d s _ call
     ((sim_table probes (wave_of probes unknown) design stimulus call is).traced.ends.done (d, s) (record { its_held = design_held; stimulus_held = stimulus_held }) status)
-promised show (words.grade design stimulus workers unknown) call is status = λ d s design_held stimulus_held.
-    let done = (grade_table unknown design stimulus call is).traced.ends.done (d, s) (record { its_held = design_held; stimulus_held = stimulus_held }) status in
+promised show (words.grade design stimulus workers unknown share) call is status = λ d s design_held stimulus_held.
+    let done = (grade_table share unknown design stimulus call is).traced.ends.done (d, s) (record { its_held = design_held; stimulus_held = stimulus_held }) status in
     record {
       named = done.is.its;
       rows = done.is.rows;

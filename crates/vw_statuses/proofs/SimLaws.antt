@@ -1,5 +1,5 @@
 -- What each status says of a command that reads a design and a stimulus, and writes a text of both.
-use Rattle.std.proofs.Common.{◌≡◌, ℕ, Bool, List, [], ◌∷◌, refl, sym, ◌∙◌, ap, subst, inl, inr, arith}
+use Rattle.std.proofs.Common.{◌≡◌, ℕ, Bool, List, Option, [], ◌∷◌, refl, sym, ◌∙◌, ap, subst, inl, inr, arith}
 use Rattle.vw_design.specs.Paths.{Word}
 use Rattle.vw_outside.specs.Told.{Told, held}
 use Rattle.vw_course.specs.Course.{Course, stage}
@@ -88,16 +88,16 @@ sim_table probes text design stimulus call is =
     (λ d one other its so. ap (design_course stimulus text no_links) (watched_once probes d one other its so)) call is
 
 -- a text has one netlist with names, but for the order of its gates
-named_once : (stimulus : List ℕ) (unknown : Bool) (d : List ℕ) (one other : NamedNetlist) → IsNamedNetlistOf [] d one
-    → IsNamedNetlistOf [] d other → grading_course stimulus unknown one ≡ grading_course stimulus unknown other
-named_once stimulus unknown d one other is its =
+named_once : (share : Option (ℕ × ℕ)) (stimulus : List ℕ) (unknown : Bool) (d : List ℕ) (one other : NamedNetlist) → IsNamedNetlistOf [] d one
+    → IsNamedNetlistOf [] d other → grading_course share stimulus unknown one ≡ grading_course share stimulus unknown other
+named_once share stimulus unknown d one other is its =
     let same : is.watched ≡ its.watched = watched_once [] d is.watched its.watched is.is its.is in
     let nets : one.nets ≡ other.nets = is.nets ∙ ap (λ (watched : WatchedDesign). net_names watched.design) same ∙ sym its.nets in
     let flats : one.ordered.flat ≡ other.ordered.flat = netlist_same [] d one.ordered other.ordered (without_names [] d one is) (without_names [] d other its) in
-    λ i. rows_course stimulus (flats i).inputs (flat_grading (nets i) unknown (flats i)) no_links
+    λ i. rows_course stimulus (flats i).inputs (flat_grading share (nets i) unknown (flats i)) no_links
 
 -- the grading of it
-pub grade_table : (unknown : Bool) (design stimulus : List ℕ) (call : Call) → IsCallOf (grade_course design stimulus unknown) call
-    → GradeStatuses unknown design stimulus call
-grade_table unknown design stimulus call is =
-    over_design_table [] (IsNamedNetlistOf []) (named_apart []) netlist_width (grading_of unknown) design stimulus (named_once stimulus unknown) call is
+pub grade_table : (share : Option (ℕ × ℕ)) (unknown : Bool) (design stimulus : List ℕ) (call : Call) → IsCallOf (grade_course share design stimulus unknown) call
+    → GradeStatuses share unknown design stimulus call
+grade_table share unknown design stimulus call is =
+    over_design_table [] (IsNamedNetlistOf []) (named_apart []) netlist_width (grading_of share unknown) design stimulus (named_once share stimulus unknown) call is

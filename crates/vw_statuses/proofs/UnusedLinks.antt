@@ -64,7 +64,7 @@ report_unused probes design board (for_chips name) = λ d named good b its fine 
 course_unused : (spelled : Spelled) → uses_links spelled ≡ false → UsesNoLinks (course_of spelled)
 course_unused (words.sim design stimulus unknown probes) none = design_unused probes design stimulus _
 course_unused (words.wave design stimulus unknown probes) none = design_unused probes design stimulus _
-course_unused (words.grade design stimulus workers unknown) none = λ d named good. rows_unused stimulus _ _ no_links (λ rows. refl)
+course_unused (words.grade design stimulus workers unknown share) none = λ d named good. rows_unused stimulus _ _ no_links (λ rows. refl)
 course_unused (words.nets design probes) none = λ d named good. refl
 course_unused (words.check design board plan probes) none = ready_unused probes design board (of_file plan) size_rest (λ ordered its sound. refl)
 course_unused (words.plan design board chips probes) none = ready_unused probes design board (by_chips chips) plan_rest (λ ordered its plan. refl)

@@ -4,7 +4,7 @@ use Rattle.std.specs.Prelude.{IsTrue, codes}
 use Rattle.std.specs.List.{All, list_all}
 use Rattle.std.proofs.lemmas.Bool.{and_parts}
 use Rattle.std.proofs.lemmas.List.Elements.{All-cons, All-nil}
-use Rattle.vw_words.specs.Forms.{Place, keyword, any, bit, name, number, suits, Form}
+use Rattle.vw_words.specs.Forms.{Place, keyword, any, bit, name, number, part, suits, Form}
 use Rattle.vw_words.specs.FirstWrong.{CanBeGiven}
 use Rattle.vw_courses.specs.Words.{command_forms}
 
@@ -14,6 +14,7 @@ sample (keyword word) = word
 sample (any bit) = codes "0"
 sample (any name) = codes "x"
 sample (any (number least most)) = codes "1"
+sample (any (part most)) = codes "1/1"
 
 abbrev suited : Place → Bool
 suited place = suits place (sample place)

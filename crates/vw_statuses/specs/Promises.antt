@@ -1,6 +1,6 @@
 -- What each command has written where it ends with status 0, by its words and its files alone: no course, no message and no other
 -- status is spoken of.
-use Rattle.std.specs.Prelude.{◌≡◌, ℕ, Bool, List, []}
+use Rattle.std.specs.Prelude.{◌≡◌, ℕ, Bool, List, Option, []}
 use Rattle.vw_net.specs.declared.ordered.Ordered.{Ordered}
 use Rattle.vw_design.specs.Paths.{Word}
 use Rattle.vw_front.specs.declared.named.NamedNetlist.{NamedNetlist}
@@ -23,13 +23,13 @@ use Rattle.vw_statuses.specs.WrittenStatuses.{plan_text, size_text}
 use Rattle.vw_statuses.specs.ReportStatuses.{ReportsPlan}
 use Rattle.vw_statuses.specs.ResumeStatuses.{AreResumed, Resumption, ResumeTexts, trace_from_state}
 
--- out has, behind what it had before, the grading of the netlist of one text over the rows of the other
-pub record WritesGrading (unknown : Bool) (d s : List ℕ) (before after : SeenSink) : Type 0 where
+-- out has, behind what it had before, the grading of the netlist of one text over the rows of the other, or of a share of its faults
+pub record WritesGrading (share : Option (ℕ × ℕ)) (unknown : Bool) (d s : List ℕ) (before after : SeenSink) : Type 0 where
   pub named : NamedNetlist
   pub rows : List (List Bool)
   pub netlist_is : IsNamedNetlistOf [] d named
   pub rows_are : IsRowsOf named.ordered.flat.inputs s rows
-  pub wrote : after ≡ appended before (grading_of unknown named rows)
+  pub wrote : after ≡ appended before (grading_of share unknown named rows)
 
 -- the netlist of a text, with its names
 pub record WritesNetlist (probes : List Word) (d : List ℕ) (before after : SeenSink) : Type 0 where
@@ -69,7 +69,7 @@ AreHeld told design board (for_chips chips) texts = (told design ≡ held texts.
 abbrev pub Promise : Spelled → (List ℕ → Told) → SeenSink → SeenSink → Type 0
 Promise (words.sim design stimulus unknown probes) told before after = (d s : List ℕ) → told design ≡ held d → told stimulus ≡ held s → WritesTrace probes unknown d s before after
 Promise (words.wave design stimulus unknown probes) told before after = (d s : List ℕ) → told design ≡ held d → told stimulus ≡ held s → WritesOver probes (wave_of probes unknown) d s before after
-Promise (words.grade design stimulus workers unknown) told before after = (d s : List ℕ) → told design ≡ held d → told stimulus ≡ held s → WritesGrading unknown d s before after
+Promise (words.grade design stimulus workers unknown share) told before after = (d s : List ℕ) → told design ≡ held d → told stimulus ≡ held s → WritesGrading share unknown d s before after
 Promise (words.nets design probes) told before after = (d : List ℕ) → told design ≡ held d → WritesNetlist probes d before after
 Promise (words.check design board plan probes) told before after = (texts : PlanTexts) → AreHeld told design board (of_file plan) texts → WritesPlanned probes (of_file plan) size_text texts before after
 Promise (words.plan design board chips probes) told before after = (texts : PlanTexts) → AreHeld told design board (by_chips chips) texts → WritesPlanned probes (by_chips chips) plan_text texts before after

@@ -1,5 +1,5 @@
 -- What each status says of a command that reads a design and a stimulus, and writes a text of both: of a run, or of a grading.
-use Rattle.std.specs.Prelude.{◌≡◌, ℕ, Bool, List, [], ◌∷◌}
+use Rattle.std.specs.Prelude.{◌≡◌, ℕ, Bool, List, Option, [], ◌∷◌}
 use Rattle.vw_design.specs.Paths.{Word}
 use Rattle.vw_course.specs.Places.{Files}
 use Rattle.vw_course.specs.Statuses.{IsAbsent, IsUnworked, HasStatus, FileStatuses}
@@ -43,5 +43,5 @@ SimStatuses probes text design stimulus = OverDesignStatuses probes (IsWatchedDe
 abbrev pub netlist_width : NamedNetlist → ℕ
 netlist_width named = named.ordered.flat.inputs
 
-abbrev pub GradeStatuses : Bool → List ℕ → List ℕ → Call → Type 0
-GradeStatuses unknown design stimulus = OverDesignStatuses [] (IsNamedNetlistOf []) netlist_width (grading_of unknown) design stimulus
+abbrev pub GradeStatuses : Option (ℕ × ℕ) → Bool → List ℕ → List ℕ → Call → Type 0
+GradeStatuses share unknown design stimulus = OverDesignStatuses [] (IsNamedNetlistOf []) netlist_width (grading_of share unknown) design stimulus

@@ -81,11 +81,11 @@ pub fn waves_show_designs()
 }
 
 /// What each status of `grade` says of its files, whatever the number of workers: after status 0, out has the grading of the
-/// netlist of the design.
+/// netlist of the design, or of a share of its faults.
 pub fn grade_statuses()
-    ensures { (design stimulus : List ℕ) (unknown : Bool) (call : Call)
-        → IsCallOf (grade_course design stimulus unknown) call
-        → GradeStatuses unknown design stimulus call }
+    ensures { (share : Option (ℕ × ℕ)) (design stimulus : List ℕ) (unknown : Bool) (call : Call)
+        → IsCallOf (grade_course share design stimulus unknown) call
+        → GradeStatuses share unknown design stimulus call }
 {}
 
 /// What each status of `nets` says of its design: after status 0, out has the text of its netlist.

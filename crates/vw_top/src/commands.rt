@@ -211,9 +211,8 @@ fn carry_out_together<R: Threads + Wait + Sync, S: Shelf, F: Fabric, G: BurstGat
         RuntimeCommand::Grade {
             design,
             stimulus,
-            workers,
-            unknown,
-        } => grade(floor.rt, alloc, design, stimulus, workers, unknown, outside),
+            settings,
+        } => grade(floor.rt, alloc, design, stimulus, settings, outside),
         RuntimeCommand::Demo { size, several } => {
             floor.workers = several.workers;
             demo_by_several(alloc, size, floor, outside)

@@ -1,33 +1,60 @@
 //! The command `grade`.
-ghost use Rattle.std.specs.Prelude.{◌≡◌, ◌+◌, length};
+ghost use Rattle.std.specs.Prelude.{◌≡◌, ◌+◌, length, IfOk, option_map};
+ghost use Rattle.std.specs.List.{All};
+ghost use Rattle.vw_net.specs.Cells.{latch_count};
 ghost use Rattle.vw_course.specs.Goes.{Goes};
 ghost use Rattle.vw_trace.specs.Streamed.{Streams};
-ghost use Rattle.vw_courses.specs.Commands.{flat_grading, grade_course, grading_course};
+ghost use Rattle.vw_courses.specs.Commands.{flat_grading, grade_course, graded_text, grading_course};
+ghost use Rattle.vw_courses.specs.Steps.Commands.{share_view};
 ghost use Rattle.vw_courses.specs.Messages.{vocabulary};
 
 use crate::answer::run_answer;
-use std::alloc::Global;
+use std::alloc::{AllocError, Global};
 use std::marker::Sync;
 use std::thread::Threads;
 use vw_course::Outside;
-use vw_courses::Unfinished;
-use vw_fault::grading_text;
+use vw_courses::{GradeSettings, Unfinished};
+use vw_fault::{grading_text, share_text};
 use vw_files::{Probes, check_rows, read_named_design};
 use vw_front::NamedNetlist;
-use vw_net::Ordered;
+use vw_net::{Bits, Ordered, Rows};
 use vw_outside::{Name, Shelf, Sink, put_text};
 use vw_rows::Rereading;
 use vw_trace::RunFault;
 
-/// Reads all rows that a stimulus still gives, and appends the grading of a netlist whose nets are printed so. Free latches start at `unknown`. At most 64 workers share the faults, and at least one does. The rows are held
+/// The text of the grading of a netlist whose nets are printed so, or of the share of its faults that the settings ask for. At
+/// most 64 workers share the faults, and at least one does.
+fn graded_text<R: Threads + Sync>(
+    rt: &R,
+    alloc: Global,
+    ordered: &Ordered,
+    names: &[Name],
+    settings: GradeSettings,
+    start: &Bits,
+    rows: &Rows,
+) -> Result<Vec<u8>, AllocError>
+    requires names { length names.now
+        ≡ ordered.now.flat.inputs + length ordered.now.flat.cells }
+    requires latches { length start.now ≡ latch_count ordered.now.flat.cells }
+    requires columns { All (λ row. length row ≡ ordered.now.flat.inputs) rows.now }
+    ensures { IfOk result (λ text. text.items
+        ≡ graded_text (share_view settings) names.now ordered.now.flat start.now rows.now) }
+{
+    let workers = settings.workers.min(64).max(1) as u32;
+    match settings.share {
+        Some(share) => share_text(rt, alloc, ordered, names, share, start, rows, workers),
+        None => grading_text(rt, alloc, ordered, names, start, rows, workers),
+    }
+}
+
+/// Reads all rows that a stimulus still gives, and appends the grading of a netlist whose nets are printed so. The rows are held
 /// whole, and nothing is written before the whole text is made.
 fn grade_rows<R: Threads + Sync, S: Shelf, O: Sink>(
     rt: &R,
     alloc: Global,
     ordered: &Ordered,
     names: &[Name],
-    unknown: bool,
-    workers: u64,
+    settings: GradeSettings,
     again: &mut Rereading<'_, '_, S>,
     out: &mut O,
 ) -> Result<(), RunFault>
@@ -35,13 +62,12 @@ fn grade_rows<R: Threads + Sync, S: Shelf, O: Sink>(
     requires names { length names.now
         ≡ ordered.now.flat.inputs + length ordered.now.flat.cells }
     ensures shelf { again.new.shelf.ghost_name ≡ again.old.shelf.ghost_name }
-    ensures streams { Streams (flat_grading names.now unknown ordered.now.flat) (λ _. Unit {0})
+    ensures streams { Streams (flat_grading (share_view settings) names.now settings.unknown ordered.now.flat) (λ _. Unit {0})
         again.old again.new (O.seen out.old) (O.seen out.new) result }
 {
-    let start = ordered.flat().start(alloc, unknown)?;
+    let start = ordered.flat().start(alloc, settings.unknown)?;
     let rows = again.next_batch(alloc, u32::MAX)?;
-    let workers = workers.min(64).max(1) as u32;
-    let text = grading_text(rt, alloc, ordered, names, &start, &rows, workers);
+    let text = graded_text(rt, alloc, ordered, names, settings, &start, &rows);
     put_text(text, out)?;
     Ok(())
 }
@@ -52,11 +78,10 @@ fn grade_netlist<R: Threads + Sync, S: Shelf, O: Sink>(
     alloc: Global,
     named: NamedNetlist,
     stimulus: &Name,
-    workers: u64,
-    unknown: bool,
+    settings: GradeSettings,
     outside: &mut Outside<'_, '_, S, O>,
 ) -> Result<(), Unfinished>
-    ensures { Goes S.seen O.seen vocabulary (grading_course stimulus.now unknown named) outside.old
+    ensures { Goes S.seen O.seen vocabulary (grading_course (share_view settings) stimulus.now settings.unknown named) outside.old
         outside.new
         result }
 {
@@ -70,29 +95,27 @@ fn grade_netlist<R: Threads + Sync, S: Shelf, O: Sink>(
         alloc,
         &named.ordered,
         named.nets.as_slice(),
-        unknown,
-        workers,
+        settings,
         &mut again,
         outside.out,
     );
     run_answer(graded)
 }
 
-/// Reads a design and a stimulus, and writes which stuck nets of the design the rows don't reveal, free latches starting at
-/// `unknown`. As many workers share the faults; what is written is the same for each number of them.
+/// Reads a design and a stimulus, and writes which stuck nets of the design the rows don't reveal, or of a share of them. What
+/// is written is the same for each number of workers.
 pub fn grade<R: Threads + Sync, S: Shelf, O: Sink>(
     rt: &R,
     alloc: Global,
     design: &Name,
     stimulus: &Name,
-    workers: u64,
-    unknown: bool,
+    settings: GradeSettings,
     outside: &mut Outside<'_, '_, S, O>,
 ) -> Result<(), Unfinished>
-    ensures { Goes S.seen O.seen vocabulary (grade_course design.now stimulus.now unknown)
+    ensures { Goes S.seen O.seen vocabulary (grade_course (share_view settings) design.now stimulus.now settings.unknown)
         outside.old outside.new result }
 {
     let none = Probes { nets: &[] };
     let named = read_named_design(alloc, outside.shelf, design, none)?;
-    grade_netlist(rt, alloc, named, stimulus, workers, unknown, outside)
+    grade_netlist(rt, alloc, named, stimulus, settings, outside)
 }

@@ -24,9 +24,8 @@ usage: vwires COMMAND FILE.. [SETTING..]\n\
 \x20 wave DESIGN STIM            runs a design, and writes its waveform (VCD)\n\
 \x20     [unknown=0|1] [probe=NET]..\n\
 \x20 grade DESIGN STIM           writes which stuck nets a stimulus does not reveal\n\
-\x20     [workers=N] [unknown=0|1]\n\
-\x20 nets DESIGN                 writes the nets and the cells of a design\n\
-\x20     [probe=NET]..\n\
+\x20     [workers=N] [unknown=0|1] [part=K/N]\n\
+\x20 nets DESIGN [probe=NET]..   writes the nets and the cells of a design\n\
 \x20 check DESIGN BOARD PLAN     checks a plan, and writes its size\n\
 \x20     [probe=NET]..\n\
 \x20 plan DESIGN BOARD           makes a plan, and writes it\n\
@@ -37,11 +36,9 @@ usage: vwires COMMAND FILE.. [SETTING..]\n\
 \x20     [plan=FILE] [workers=N] [unknown=0|1] [probe=NET]..\n\
 \x20 save DESIGN BOARD STIM      runs a design on a board, and writes its state\n\
 \x20     [plan=FILE] [workers=N] [unknown=0|1] [every=N]\n\
-\x20 resume DESIGN BOARD STATE STIM\n\
-\x20                             goes on from a state, and writes the trace\n\
+\x20 resume DESIGN BOARD STATE STIM  goes on from a state, and writes the trace\n\
 \x20     [plan=FILE] [workers=N] [unknown=0|1] [probe=NET]..\n\
-\x20 emit DESIGN BOARD           writes a planned board as a design in BLIF\n\
-\x20     [plan=FILE]\n\
+\x20 emit DESIGN BOARD [plan=FILE]  writes a planned board as a design in BLIF\n\
 \x20 demo CELLS                  runs a generated design of 1 to 20000 cells on\n\
 \x20     [workers=N]             a generated board, and writes a summary\n\
 \x20 --help                      writes this text\n\
@@ -58,6 +55,7 @@ usage: vwires COMMAND FILE.. [SETTING..]\n\
 \x20 plan=FILE      the plan to run by (one is made)\n\
 \x20 chips=FILE     the chip of each cell, as in a plan (they are chosen)\n\
 \x20 every=N        a state for each N clocks, too (only one at the end)\n\
+\x20 part=K/N       the Kth of N shares of the faults, N up to 65536 (all)\n\
 \x20 workers=N      how many threads run the chips or grade, 1 to 64 (4)\n\
 \n\
 The exit status is 0 where the command was carried out. A design (1), words\n\

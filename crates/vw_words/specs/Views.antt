@@ -1,18 +1,19 @@
 -- Forms of the code as those of the definitions.
 use Rattle.std.specs.Prelude.{List, map}
 use Rattle.vw_words.specs.declared.value.Value.{Value as HeldValue}
-use Rattle.vw_words.specs.declared.value.Value.TheVariants.{Bit, Name, Number}
+use Rattle.vw_words.specs.declared.value.Value.TheVariants.{Bit, Name, Number, Part}
 use Rattle.vw_words.specs.declared.place.Place.{Place as HeldPlace}
 use Rattle.vw_words.specs.declared.place.Place.TheVariants.{Keyword, Any}
 use Rattle.vw_words.specs.declared.setting.Setting.{Setting as HeldSetting}
 use Rattle.vw_words.specs.declared.form.Form.{Form as HeldForm}
 use Rattle.vw_words.specs.declared.forms.Entry.{Entry}
-use Rattle.vw_words.specs.Forms.{Value, bit, name, number, Place, keyword, any, Setting, Form}
+use Rattle.vw_words.specs.Forms.{Value, bit, name, number, part, Place, keyword, any, Setting, Form}
 
 abbrev pub value_view : HeldValue → Value
 value_view Bit = bit
 value_view Name = name
 value_view (Number least most) = number least most
+value_view (Part most) = part most
 
 abbrev pub place_view : HeldPlace → Place
 place_view (Keyword wanted) = keyword wanted.now

@@ -16,4 +16,4 @@ pub use laws::{form_has_words, words_have_form, wrong_words_follow_the_longest_f
 pub use names::Names;
 pub use place::Place;
 pub use setting::Setting;
-pub use value::{Value, number_or_zero};
+pub use value::{Value, number_or_zero, part_in};

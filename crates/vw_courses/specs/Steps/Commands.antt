@@ -1,8 +1,9 @@
 -- Commands of the code as those of the words.
-use Rattle.std.specs.Prelude.{ℕ, take, option_map}
+use Rattle.std.specs.Prelude.{ℕ, take, Option, option_map}
 use Rattle.std.specs.Option.{option_copied}
 use Rattle.vw_courses.specs.declared.command.Command.{Command}
 use Rattle.vw_courses.specs.declared.command.Command.TheVariants.{Plain, OnRuntime}
+use Rattle.vw_courses.specs.declared.command.GradeSettings.{GradeSettings}
 use Rattle.vw_courses.specs.declared.command.PlainCommand.{PlainCommand}
 use Rattle.vw_courses.specs.declared.command.PlainCommand.TheVariants as plain
 use Rattle.vw_courses.specs.declared.command.RunWords.{RunWords}
@@ -14,6 +15,10 @@ use Rattle.vw_words.specs.Views.{form_view}
 use Rattle.vw_courses.specs.declared.forms.Verb.{Verb}
 use Rattle.vw_courses.specs.Words.{Spelled, CommandForm}
 use Rattle.vw_courses.specs.Words as words
+
+-- the share that a grading is of, by its number and how many there are
+abbrev pub share_view : GradeSettings → Option (ℕ × ℕ)
+share_view settings = option_map (λ share. (share.number, share.shares)) settings.share
 
 -- a run by so many workers
 abbrev pub run_view : RunWords → ℕ → Spelled
@@ -35,7 +40,8 @@ plain_view plain.Version = words.version
 plain_view (plain.Nothing place) = words.nothing place
 
 abbrev pub runtime_view : RuntimeCommand → Spelled
-runtime_view (runtime.Grade design stimulus workers unknown) = words.grade design.now stimulus.now workers unknown
+runtime_view (runtime.Grade design stimulus settings) =
+    words.grade design.now stimulus.now settings.workers settings.unknown (share_view settings)
 runtime_view (runtime.Run its several) = run_view its several.workers
 runtime_view (runtime.Save design board stimulus plan workers unknown every) =
     words.save design.now board.now stimulus.now (option_copied plan) workers unknown (option_map (λ interval. interval.clocks) every)

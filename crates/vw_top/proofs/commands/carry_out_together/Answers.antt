@@ -4,7 +4,7 @@ use Rattle.vw_course.specs.Goes.{GoesOver, MovedFrom}
 use Rattle.vw_courses.specs.Commands.{course_of, resume_course, run_course, save_course}
 use Rattle.vw_courses.specs.MayPlan.{PlanBy}
 use Rattle.vw_courses.specs.Messages.{vocabulary}
-use Rattle.vw_courses.specs.Steps.Commands.{runtime_view}
+use Rattle.vw_courses.specs.Steps.Commands.{runtime_view, share_view}
 use Rattle.vw_courses.specs.Words.{Spelled}
 use Rattle.vw_courses.specs.declared.command.Interval.{Interval}
 use Rattle.vw_courses.specs.declared.forms.TheConstants.{MOST_PROBES}
@@ -22,7 +22,7 @@ returns-in-Demo-clause-goes g c =
 pub returns-in-Grade-clause-goes : goal.returns-in-Grade-clause-goes
 returns-in-Grade-clause-goes g c =
     let graded = c.in-Grade in
-    let is : runtime_view c.args.command ≡ words.grade graded.design.now graded.stimulus.now graded.workers graded.unknown = ap runtime_view graded.is in
+    let is : runtime_view c.args.command ≡ words.grade graded.design.now graded.stimulus.now graded.settings.workers graded.settings.unknown (share_view graded.settings) = ap runtime_view graded.is in
     let goes = c.grade.ensures in
     subst (λ (spelled : Spelled). GoesOver g.S.Shelf.seen g.O.Sink.seen vocabulary (MovedFrom (g.F.Fabric.carried c.args.floor.now.fabric.now) (g.F.Fabric.carried c.args.floor.now.fabric.now)) (course_of spelled) c.args.outside.now c.grade.new.outside c.grade.result) (sym is)
     (record { same = goes.same; leads = record { follows = λ links links_after moved. goes.leads.follows links links_after (moved.1 ∙ sym moved.0) } })
