@@ -71,14 +71,15 @@ workers_given settings = max 1 (number_given workers_setting 4 settings)
 abbrev pub every_given : List (List ℕ) → Option ℕ
 every_given settings = option_map (λ word. max 1 (number_or_zero word)) (name_given every_setting settings)
 
--- how many shares a text spells, and the number of the one that is meant, from 1
+-- how many shares a text spells; the form lets no other number through than 1 to 65536
 abbrev pub shares_in : List ℕ → ℕ
 shares_in text = max 1 (min (part_count text) 65536)
 
+-- the number of the share that it spells; the form lets no other through than 1 to how many there are
 abbrev pub share_in : List ℕ → ℕ
 share_in text = max 1 (min (part_number text) (shares_in text))
 
--- where no word says so, all faults are graded; the form lets no other share through than 1 to their number, which is at most 65536
+-- where no word says so, all faults are graded
 abbrev pub share_given : List (List ℕ) → Option (ℕ × ℕ)
 share_given settings = option_map (λ text. (share_in text, shares_in text)) (name_given part_setting settings)
 

@@ -13,17 +13,19 @@ pub data Value : Type 0 where
   number : (least most : ℕ) → Value
   part : (most : ℕ) → Value
 
--- what stands before the first slash of a text, and behind it
+-- what stands before the first slash of a text; where there is none, all
 abbrev pub before_slash : List ℕ → List ℕ
 before_slash text = before_first (λ b. b == 47) text
 
+-- what stands behind it; where there is none, nothing
 abbrev pub behind_slash : List ℕ → List ℕ
 behind_slash text = after_first (λ b. b == 47) text
 
--- the number of a share that a text spells, and how many shares, or 0 where it spells none
+-- the number of a share that a text spells, or 0 where it spells none
 abbrev pub part_number : List ℕ → ℕ
 part_number text = unwrap_or (spelled_number (before_slash text)) 0
 
+-- how many shares it spells, or 0
 abbrev pub part_count : List ℕ → ℕ
 part_count text = unwrap_or (spelled_number (behind_slash text)) 0
 
