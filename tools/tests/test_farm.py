@@ -40,6 +40,10 @@ class Farm:
         self.write("vw", NOTING.format(python=sys.executable, folder=str(self.folder), vwires=str(VWIRES)))
         (self.folder / "vw").chmod(0o755)
 
+    def run_words(self, words, **settings):
+        """The same, which fails where it takes five minutes."""
+        return super().run_words(words, timeout=300, **settings)
+
     def words(self, *words):
         """The words of a call of the tool."""
         return [str(word) for word in [FARM, *words, *self.engine, "--out", "out", "--vwires", "./vw"]]
@@ -88,7 +92,7 @@ class Farm:
                 break
             time.sleep(0.05)
         begun.send_signal(signal.SIGINT)
-        begun.wait()
+        begun.wait(timeout=60)
         (self.folder / "slow").unlink()
         time.sleep(1)
         kept = {file.name: file.stat().st_mtime_ns for file in (self.folder / "out").glob("task*.json")}
@@ -225,6 +229,10 @@ class Slurm(Farm, Case):
         cls.start("slurmctld", "-D", "-c")
         cls.start("slurmd", "-D", "-N", host)
         cls.until(lambda: " idle " in subprocess.run(["sinfo", "-h"], capture_output=True, text=True, check=False).stdout)
+        # a cluster that is up may run no job all the same
+        first = ["timeout", "60", "sbatch", "--wait", "--output=/dev/null", "--wrap", "true"]
+        if subprocess.run(first, capture_output=True, check=False).returncode != 0:
+            raise unittest.SkipTest("Slurm runs no job")
 
     @classmethod
     def start(cls, *words):
