@@ -6,7 +6,7 @@
 Each PROGRAM is a built vwires. yosys has to be installed: it makes the designs of bench/designs, in gates of two inputs or
 in tables of four or of six. Each is planned on boards with room for 3 % more cells than there are, whose host is joined to
 each chip. A line of the table in Markdown has the wires, the period, and the seconds of processor of a plan, with those of
-the program before; what follows says how the periods and the wires of all compare. `check` of the same program has to
+the program before, and the bound SHORT of `report` for the plan of PROGRAM; what follows says how the periods and the wires of all compare. `check` of the same program has to
 accept each plan. The status is 1 where one is refused, or where a period got longer.
 """
 import argparse
@@ -83,6 +83,13 @@ def plan(program, folder):
     return int(words[3]), int(words[4]), after.ru_utime - before.ru_utime, checked.returncode == 0
 
 
+def short_bound(program, folder):
+    """The bound of `report` for plans with the chips of the plan that was made last, and shortest wires."""
+    words = [*program, "report", "design.blif", "b.board", "plan=made.plan"]
+    said = subprocess.run(words, cwd=folder, capture_output=True, check=True).stdout
+    return int(said.split(b"\n", 1)[0].split()[-1])
+
+
 def ratio(values):
     """The mean of ratios and the greatest."""
     return f"{sum(values) / len(values):.3f} on average, {max(values):.2f} at most" if values else "none"
@@ -98,9 +105,9 @@ def main():
     programs = [word.split() for word in ([given.before] if given.before else []) + [given.program]]
     wanted = given.designs.split(",") if given.designs else []
     boards = given.boards.split(";") if given.boards else list(BOARDS)
-    periods, wires, times, failed = [], [], [], 0
-    print("| design | tables | cells | board | wires | period | seconds |")
-    print("|---|---|---|---|---|---|---|")
+    periods, wires, times, over, failed = [], [], [], [], 0
+    print("| design | tables | cells | board | wires | period | SHORT | seconds |")
+    print("|---|---|---|---|---|---|---|---|")
     for name, form in DESIGNS:
         if wanted and name not in wanted:
             continue
@@ -114,7 +121,9 @@ def main():
                 made = [plan(program, folder) for program in programs]
                 failed += sum(not it[3] for it in made)
                 shown = [", ".join(str(round(it[at], 2)) for it in made) for at in range(3)]
-                print(f"| {name} | {form} | {cells} | {board} | {shown[0]} | {shown[1]} | {shown[2]} |", flush=True)
+                bound = short_bound(programs[-1], folder)
+                over.append(made[-1][1] / bound)
+                print(f"| {name} | {form} | {cells} | {board} | {shown[0]} | {shown[1]} | {bound} | {shown[2]} |", flush=True)
                 if len(made) == 2:
                     old, new = made
                     wires.append(new[0] / old[0])
@@ -123,6 +132,7 @@ def main():
                     failed += new[1] > old[1]
     if given.before:
         print(f"\nAfter to before: periods {ratio(periods)}; wires {ratio(wires)}; time {ratio(times)}.")
+    print(f"Periods to SHORT: {ratio(over)}; {sum(it == 1 for it in over)} of {len(over)} are it.")
     print(f"Load: {os.getloadavg()[0]:.1f} on {os.cpu_count()} processors.")
     sys.exit(1 if failed else 0)
 
