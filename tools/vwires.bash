@@ -12,6 +12,7 @@ _vwires() {
         unknown) mapfile -t COMPREPLY < <(compgen -W '0 1' -- "$word"); return ;;
         plan) mapfile -t COMPREPLY < <(compgen -f -- "$word"); return ;;
         chips) mapfile -t COMPREPLY < <(compgen -f -- "$word"); return ;;
+        replay) mapfile -t COMPREPLY < <(compgen -f -- "$word"); return ;;
         ?*) return ;;
     esac
     if [ "$COMP_CWORD" -eq 1 ]; then
@@ -19,8 +20,8 @@ _vwires() {
         return
     fi
     case ${COMP_WORDS[1]} in
-        sim) settings='unknown= probe=' ;;
-        wave) settings='unknown= probe=' ;;
+        sim) settings='unknown= replay= probe=' ;;
+        wave) settings='unknown= replay= probe=' ;;
         grade) settings='workers= unknown= part=' ;;
         nets) settings='probe=' ;;
         check) settings='probe=' ;;

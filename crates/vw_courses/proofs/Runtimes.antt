@@ -11,6 +11,8 @@ use Rattle.vw_courses.specs.Words.{needs_runtime}
 pub plain_needs_none : (command : PlainCommand) → needs_runtime (plain_view command) ≡ false
 plain_needs_none (plain.Sim design stimulus unknown probes) = refl
 plain_needs_none (plain.Wave design stimulus unknown probes) = refl
+plain_needs_none (plain.Replay its) = refl
+plain_needs_none (plain.ReplayWave its) = refl
 plain_needs_none (plain.Nets design probes) = refl
 plain_needs_none (plain.Check design board plan probes) = refl
 plain_needs_none (plain.Plan design board chips probes) = refl

@@ -1,15 +1,16 @@
 -- The course of each command.
-use Rattle.std.specs.Prelude.{◌≡◌, ◌++◌, ℕ, Bool, false, List, [], ◌∷◌, length, codes, Option, Some, None}
+use Rattle.std.specs.Prelude.{◌≡◌, ◌++◌, ℕ, Bool, false, List, [], ◌∷◌, drop, length, codes, Option, Some, None}
 use Rattle.std.specs.List.{All}
 use Rattle.std.specs.Fmt.{decimal}
 use Rattle.vw_net.specs.declared.flat.Flat.{Flat}
 use Rattle.vw_net.specs.declared.ordered.Ordered.{Ordered}
 use Rattle.vw_net.specs.Cells.{latch_count, start_values}
+use Rattle.vw_net.specs.History.{History}
 use Rattle.vw_design.specs.Paths.{Word as ProbeWord}
 use Rattle.vw_design.specs.Preorder.{latches}
 use Rattle.vw_design.specs.NetReads.{root_outputs}
 use Rattle.vw_design.specs.Clocks.{columns}
-use Rattle.vw_design.specs.PathHistory.{path_history}
+use Rattle.vw_design.specs.PathHistory.{path_history, path_history_from}
 use Rattle.vw_front.specs.Designs.{WatchedDesign}
 use Rattle.vw_front.specs.Names.{signal_names}
 use Rattle.vw_front.specs.declared.named.NamedNetlist.{NamedNetlist}
@@ -29,11 +30,12 @@ use Rattle.vw_emit_text.specs.Emitted.{emitted_text}
 use Rattle.vw_report.specs.Report.{report_of}
 use Rattle.vw_resume.specs.declared.state.State.{State}
 use Rattle.vw_resume.specs.States.{state_text}
+use Rattle.vw_resume.specs.Resumed.{replayed_trace, replayed_wave}
 use Rattle.vw_resume.specs.Saved.{kept_texts, saved_text}
-use Rattle.vw_rows.specs.Trace.{trace_text}
+use Rattle.vw_rows.specs.Trace.{trace_text, trace_text_from}
 use Rattle.vw_batches.specs.Traffic.{scripts_of, words_from}
 use Rattle.vw_trace.specs.FlatTrace.{flat_trace, trace_from}
-use Rattle.vw_vcd.specs.Lines.{wave_text}
+use Rattle.vw_vcd.specs.Lines.{wave_text, wave_text_from}
 use Rattle.vw_wave.specs.FlatWave.{flat_wave, signal_rows}
 use Rattle.vw_courses.specs.declared.vocabulary.File.TheVariants as files
 use Rattle.vw_courses.specs.declared.vocabulary.Reason.TheVariants.{Usage}
@@ -44,7 +46,7 @@ use Rattle.vw_courses.specs.Demo.{board_name, design_name, generated, stimulus_n
 use Rattle.vw_gen.specs.Summary.{summary}
 use Rattle.vw_courses.specs.Messages.{vocabulary, CallWork}
 use Rattle.vw_courses.specs.MayPlan.{PlanBy, made_here, of_file, for_chips, by_file, by_chips}
-use Rattle.vw_courses.specs.Kinds.{design_kind, netlist_kind, named_kind, rows_kind, IsBadAgain, board_kind, plan_kind, chips_kind, soundness, planning, planning_for, reporting, emission, state_kind, clocks_fit}
+use Rattle.vw_courses.specs.Kinds.{design_kind, netlist_kind, named_kind, rows_kind, IsBadAgain, board_kind, plan_kind, chips_kind, soundness, planning, planning_for, reporting, emission, state_kind, clocks_fit, clocks_reach}
 
 -- ---- traces
 
@@ -131,6 +133,51 @@ netlist_wave names unknown ordered = flat_wave names unknown ordered.flat
 
 abbrev pub wave_course : List ProbeWord → List ℕ → List ℕ → Bool → Course vocabulary
 wave_course probes design stimulus unknown = over_design_course probes design stimulus (wave_of probes unknown)
+
+-- ---- replays
+
+-- a text of each thing from each state on
+abbrev pub TextFrom : Type 0 → Type 0
+TextFrom Thing = State → TextOver Thing
+
+-- what a design does from a state on, over the rows from the state's clock on
+abbrev pub replayed_history : State → WatchedDesign → List (List Bool) → History
+replayed_history from watched rows = path_history_from watched.design watched.nets from.latches (drop from.clock rows)
+
+-- its trace, whose first clock is the state's
+abbrev pub replayed_trace_of : TextFrom WatchedDesign
+replayed_trace_of from watched rows =
+    trace_text_from from.clock (length (root_outputs watched.design)) (length watched.nets) (length (latches watched.design))
+    (replayed_history from watched rows)
+
+-- its wave, whose first clock is the state's
+abbrev pub replayed_wave_of : List ProbeWord → TextFrom WatchedDesign
+replayed_wave_of probes from watched rows =
+    wave_text_from from.clock (signal_names probes watched.design) (signal_rows (replayed_history from watched rows))
+
+-- the same of a netlist, of which so many last outputs are probes, or whose signals have these names
+abbrev pub netlist_replay : ℕ → Flat → State → List (List Bool) → List ℕ
+netlist_replay count flat from = replayed_trace count flat from.clock from.latches
+
+abbrev pub netlist_replayed_wave : List ProbeWord → Flat → State → List (List Bool) → List ℕ
+netlist_replayed_wave names flat from = replayed_wave names flat from.clock from.latches
+
+-- the stimulus has to reach the state's clock; no links are used
+abbrev pub reached_course : List ℕ → ℕ → (State → List (List Bool) → List ℕ) → State → Course vocabulary
+reached_course stimulus width text from = checked_rows_course stimulus width (check_by (clocks_reach from.clock)) (text from) no_links
+
+-- the state, with so many latches, is read before
+abbrev pub replay_rest : ℕ → ℕ → List ℕ → List ℕ → (State → List (List Bool) → List ℕ) → Course vocabulary
+replay_rest count width state stimulus text = stage (state_kind count) state (reached_course stimulus width text)
+
+-- of a design with its text
+abbrev pub design_replay : List ℕ → List ℕ → TextFrom WatchedDesign → WatchedDesign → Course vocabulary
+design_replay state stimulus text watched =
+    replay_rest (length (latches watched.design)) (length (columns watched.design)) state stimulus (λ from. text from watched)
+
+-- the design first
+abbrev pub replay_course : List ProbeWord → List ℕ → List ℕ → List ℕ → TextFrom WatchedDesign → Course vocabulary
+replay_course probes design state stimulus text = stage (design_kind probes) design (design_replay state stimulus text)
 
 -- ---- grade
 
@@ -331,6 +378,8 @@ course_of (words.run design board stimulus given workers unknown probes) =
 course_of (words.demo cells workers) = demo_course cells workers
 course_of (words.wave design stimulus unknown probes) = wave_course probes design stimulus unknown
 course_of (words.grade design stimulus workers unknown share) = grade_course share design stimulus unknown
+course_of (words.replay design stimulus state probes) = replay_course probes design state stimulus replayed_trace_of
+course_of (words.replay_wave design stimulus state probes) = replay_course probes design state stimulus (replayed_wave_of probes)
 course_of (words.nets design probes) = nets_course probes design
 course_of (words.save design board stimulus given workers unknown every) =
     save_course design board (by_file given) stimulus workers unknown every

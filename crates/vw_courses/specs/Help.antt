@@ -9,14 +9,13 @@ help_text = lines_text (
     codes "usage: vwires COMMAND FILE.. [SETTING..]" ∷
     codes "" ∷
     codes "  sim DESIGN STIM             runs a design, and writes its trace" ∷
-    codes "      [unknown=0|1] [probe=NET].." ∷
+    codes "      [unknown=0|1] [replay=STATE] [probe=NET].." ∷
     codes "  wave DESIGN STIM            runs a design, and writes its waveform (VCD)" ∷
-    codes "      [unknown=0|1] [probe=NET].." ∷
+    codes "      [unknown=0|1] [replay=STATE] [probe=NET].." ∷
     codes "  grade DESIGN STIM           writes which stuck nets a stimulus does not reveal" ∷
     codes "      [workers=N] [unknown=0|1] [part=K/N]" ∷
     codes "  nets DESIGN [probe=NET]..   writes the nets and the cells of a design" ∷
-    codes "  check DESIGN BOARD PLAN     checks a plan, and writes its size" ∷
-    codes "      [probe=NET].." ∷
+    codes "  check DESIGN BOARD PLAN [probe=NET]..  checks a plan, and writes its size" ∷
     codes "  plan DESIGN BOARD           makes a plan, and writes it" ∷
     codes "      [chips=FILE] [probe=NET].." ∷
     codes "  report DESIGN BOARD         writes a plan in numbers and names, with a bound" ∷
@@ -43,6 +42,7 @@ help_text = lines_text (
     codes "  probe=NET      a net that is watched beside the outputs, up to 64 times" ∷
     codes "  plan=FILE      the plan to run by (one is made)" ∷
     codes "  chips=FILE     the chip of each cell, as in a plan (they are chosen)" ∷
+    codes "  replay=STATE   the state to go on from, over the rows behind it (the start)" ∷
     codes "  every=N        a state for each N clocks, too (only one at the end)" ∷
     codes "  part=K/N       the Kth of N shares of the faults, N up to 65536 (all)" ∷
     codes "  workers=N      how many threads run the chips or grade, 1 to 64 (4)" ∷

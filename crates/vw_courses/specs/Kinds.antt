@@ -36,7 +36,7 @@ use Rattle.vw_emit_text.specs.Emitted.{FitsDesigns, IsEmitFault}
 use Rattle.vw_emit_text.specs.Messages.{is_emit_fault}
 use Rattle.vw_emit_text.proofs.Limits.{fits_apart}
 use Rattle.vw_resume.specs.declared.fault.StateFault.{StateFault}
-use Rattle.vw_resume.specs.declared.fault.StateFault.TheVariants.{TooManyClocks}
+use Rattle.vw_resume.specs.declared.fault.StateFault.TheVariants.{TooManyClocks, TooFewClocks}
 use Rattle.vw_resume.specs.declared.state.State.{State}
 use Rattle.vw_resume.specs.States.{Spells as SpellsState, IsBadState as IsBadStateText}
 use Rattle.vw_resume.proofs.ReadBack.{spelled_unrefused}
@@ -317,5 +317,18 @@ clocks_fit clock rows = record {
   Good = λ done. clock + length rows ≤ MOST_CLOCKS;
   Bad = AreTooManyClocks clock rows;
   apart = λ done reason fits bad. not-le_of_lt bad.1 fits;
+  its_status = λ reason bad. ap reason_status bad.0;
+}
+
+-- why rows don't reach a state with this clock: they are fewer
+abbrev pub AreTooFewClocks : ℕ → List (List Bool) → Reason → Type 0
+AreTooFewClocks clock rows reason = (reason ≡ reasons.State (TooFewClocks (length rows) clock)) × (length rows < clock)
+
+-- they do, or don't
+abbrev pub clocks_reach : ℕ → List (List Bool) → Judged vocabulary (Unit {0}) 11
+clocks_reach clock rows = record {
+  Good = λ done. clock ≤ length rows;
+  Bad = AreTooFewClocks clock rows;
+  apart = λ done reason reached bad. not-le_of_lt bad.1 reached;
   its_status = λ reason bad. ap reason_status bad.0;
 }

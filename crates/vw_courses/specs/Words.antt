@@ -12,6 +12,8 @@ pub data Spelled : Type 0 where
   sim : (design stimulus : List ℕ) (unknown : Bool) (probes : List (List ℕ)) → Spelled
   wave : (design stimulus : List ℕ) (unknown : Bool) (probes : List (List ℕ)) → Spelled
   grade : (design stimulus : List ℕ) (workers : ℕ) (unknown : Bool) (share : Option (ℕ × ℕ)) → Spelled
+  replay : (design stimulus state : List ℕ) (probes : List (List ℕ)) → Spelled
+  replay_wave : (design stimulus state : List ℕ) (probes : List (List ℕ)) → Spelled
   nets : (design : List ℕ) (probes : List (List ℕ)) → Spelled
   check : (design board plan : List ℕ) (probes : List (List ℕ)) → Spelled
   plan : (design board : List ℕ) (chips : Option (List ℕ)) (probes : List (List ℕ)) → Spelled
@@ -51,6 +53,10 @@ workers_setting = record { name = codes "workers"; value = number 1 64; times = 
 abbrev pub every_setting : Setting
 every_setting = record { name = codes "every"; value = number 1 4294967295; times = 1 }
 
+-- the state from which a design goes on
+abbrev pub replay_setting : Setting
+replay_setting = record { name = codes "replay"; value = name; times = 1 }
+
 -- a share of the faults that are graded, of so many
 abbrev pub part_setting : Setting
 part_setting = record { name = codes "part"; value = part 65536; times = 1 }
@@ -89,14 +95,26 @@ cells_given word = max 1 (min (number_or_zero word) 20000)
 
 -- ---- what words of the form of a command spell
 
+-- a run from the start values, or from a state on: then each latch starts as the state has it
+abbrev pub sim_with : Option (List ℕ) → List ℕ → List ℕ → Bool → List (List ℕ) → Spelled
+sim_with None design stimulus unknown probes = sim design stimulus unknown probes
+sim_with (Some state) design stimulus unknown probes = replay design stimulus state probes
+
+-- and so its wave
+abbrev pub wave_with : Option (List ℕ) → List ℕ → List ℕ → Bool → List (List ℕ) → Spelled
+wave_with None design stimulus unknown probes = wave design stimulus unknown probes
+wave_with (Some state) design stimulus unknown probes = replay_wave design stimulus state probes
+
 -- what words of the form of `sim` spell
 abbrev pub sim_of : List (List ℕ) → Option Spelled
-sim_of (verb ∷ design ∷ stimulus ∷ settings) = Some (sim design stimulus (unknown_given settings) (probes_given settings))
+sim_of (verb ∷ design ∷ stimulus ∷ settings) =
+    Some (sim_with (name_given replay_setting settings) design stimulus (unknown_given settings) (probes_given settings))
 sim_of words = None
 
 -- what words of the form of `wave` spell
 abbrev pub wave_of : List (List ℕ) → Option Spelled
-wave_of (verb ∷ design ∷ stimulus ∷ settings) = Some (wave design stimulus (unknown_given settings) (probes_given settings))
+wave_of (verb ∷ design ∷ stimulus ∷ settings) =
+    Some (wave_with (name_given replay_setting settings) design stimulus (unknown_given settings) (probes_given settings))
 wave_of words = None
 
 -- what words of the form of `grade` spell
@@ -187,8 +205,8 @@ file = any name
 -- the commands, each with its form
 abbrev pub commands : List CommandForm
 commands =
-    record { verb = verbs.Sim; form = form_with (codes "sim") (file ∷ file ∷ []) (unknown_setting ∷ probe_setting ∷ []) }
-    ∷ record { verb = verbs.Wave; form = form_with (codes "wave") (file ∷ file ∷ []) (unknown_setting ∷ probe_setting ∷ []) }
+    record { verb = verbs.Sim; form = form_with (codes "sim") (file ∷ file ∷ []) (unknown_setting ∷ replay_setting ∷ probe_setting ∷ []) }
+    ∷ record { verb = verbs.Wave; form = form_with (codes "wave") (file ∷ file ∷ []) (unknown_setting ∷ replay_setting ∷ probe_setting ∷ []) }
     ∷ record { verb = verbs.Grade; form = form_with (codes "grade") (file ∷ file ∷ []) (workers_setting ∷ unknown_setting ∷ part_setting ∷ []) }
     ∷ record { verb = verbs.Nets; form = form_with (codes "nets") (file ∷ []) (probe_setting ∷ []) }
     ∷ record { verb = verbs.Check; form = form_with (codes "check") (file ∷ file ∷ file ∷ []) (probe_setting ∷ []) }
@@ -234,6 +252,8 @@ needs_runtime (save design board stimulus given workers unknown every) = true
 needs_runtime (resume design board state stimulus given workers probes) = true
 needs_runtime (sim design stimulus unknown probes) = false
 needs_runtime (wave design stimulus unknown probes) = false
+needs_runtime (replay design stimulus state probes) = false
+needs_runtime (replay_wave design stimulus state probes) = false
 needs_runtime (nets design probes) = false
 needs_runtime (check design board given probes) = false
 needs_runtime (plan design board chips probes) = false
@@ -252,6 +272,8 @@ uses_links (resume design board state stimulus given workers probes) = ltb 1 wor
 uses_links (sim design stimulus unknown probes) = false
 uses_links (wave design stimulus unknown probes) = false
 uses_links (grade design stimulus workers unknown share) = false
+uses_links (replay design stimulus state probes) = false
+uses_links (replay_wave design stimulus state probes) = false
 uses_links (nets design probes) = false
 uses_links (check design board given probes) = false
 uses_links (plan design board chips probes) = false

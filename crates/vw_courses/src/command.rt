@@ -47,6 +47,17 @@ pub struct RunWords<'a> {
     pub probes: Names<'a>,
 }
 
+/// The files and settings of a replay.
+#[derive(Drop)]
+pub struct ReplayWords<'a> {
+    pub design: &'a Name,
+    pub stimulus: &'a Name,
+    /// The name of the state from which the design goes on.
+    pub state: &'a [u8],
+    /// The nets that are watched.
+    pub probes: Names<'a>,
+}
+
 /// A command that needs no runtime.
 #[derive(Drop)]
 pub enum PlainCommand<'a> {
@@ -68,6 +79,11 @@ pub enum PlainCommand<'a> {
         /// The nets that are watched.
         probes: Names<'a>,
     },
+    /// Runs a design from a state on over the rows of a stimulus from the state's clock on, and writes its trace. Each latch
+    /// starts as the state has it.
+    Replay(ReplayWords<'a>),
+    /// The same, and writes its wave.
+    ReplayWave(ReplayWords<'a>),
     /// Writes the netlist of a design.
     Nets {
         design: &'a Name,

@@ -71,6 +71,13 @@ pub const EVERY: Setting = Setting {
     times: 1,
 };
 
+/// The state from which a design goes on.
+pub const REPLAY: Setting = Setting {
+    name: b"replay",
+    value: Value::Name,
+    times: 1,
+};
+
 /// How many shares the faults are cut into at most.
 pub const MOST_SHARES: u64 = 65_536;
 
@@ -87,16 +94,16 @@ pub const DEFAULT_WORKERS: u64 = 4;
 /// How many cells a demo has at most.
 pub const MOST_CELLS: u64 = 20_000;
 
-/// sim DESIGN STIM [unknown=0|1] [probe=NET]..
+/// sim DESIGN STIM [unknown=0|1] [replay=STATE] [probe=NET]..
 const SIM: Form = Form {
     places: &[Place::Keyword(b"sim"), FILE, FILE],
-    settings: &[UNKNOWN, PROBE],
+    settings: &[UNKNOWN, REPLAY, PROBE],
 };
 
-/// wave DESIGN STIM [unknown=0|1] [probe=NET]..
+/// wave DESIGN STIM [unknown=0|1] [replay=STATE] [probe=NET]..
 const WAVE: Form = Form {
     places: &[Place::Keyword(b"wave"), FILE, FILE],
-    settings: &[UNKNOWN, PROBE],
+    settings: &[UNKNOWN, REPLAY, PROBE],
 };
 
 /// grade DESIGN STIM [workers=N] [unknown=0|1] [part=K/N]

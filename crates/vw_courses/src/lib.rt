@@ -9,7 +9,7 @@ mod vocabulary;
 mod words;
 
 pub use command::{
-    Command, GradeSettings, Interval, PlainCommand, RunWords, RuntimeCommand, Several,
+    Command, GradeSettings, Interval, PlainCommand, ReplayWords, RunWords, RuntimeCommand, Several,
 };
 pub use size::Size;
 pub use vocabulary::{File, Reason, Unfinished};

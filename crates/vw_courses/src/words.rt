@@ -1,17 +1,17 @@
 ghost use Rattle.std.specs.Prelude.{◌≡◌, ◌≤◌, IfOk, length, map, option_and_then, option_map, take};
 ghost use Rattle.std.specs.Option.{option_map_or};
 ghost use Rattle.vw_courses.specs.Words.{spelled_as, spelled_by, found_verb, sim_of, wave_of, grade_of, nets_of, check_of, plan_of, report_of, run_of, save_of, resume_of, emit_of, demo_of, cells_given};
-ghost use Rattle.vw_courses.specs.Words.{plan_setting, demo as spelled_demo, probes_given, run as spelled_run, every_given, share_given, unknown_given, workers_given};
+ghost use Rattle.vw_courses.specs.Words.{plan_setting, replay_setting, demo as spelled_demo, probes_given, run as spelled_run, sim_with as spelled_sim_with, wave_with as spelled_wave_with, every_given, share_given, unknown_given, workers_given};
 ghost use Rattle.vw_courses.specs.declared.forms.TheConstants.{MOST_PROBES};
-ghost use Rattle.vw_courses.specs.Steps.Commands.{command_form, command_view};
+ghost use Rattle.vw_courses.specs.Steps.Commands.{command_form, command_view, plain_view};
 ghost use Rattle.vw_words.specs.Values.{name_given};
 
 use crate::command::{
-    Command, GradeSettings, Interval, PlainCommand, RunWords, RuntimeCommand, Several,
+    Command, GradeSettings, Interval, PlainCommand, ReplayWords, RunWords, RuntimeCommand, Several,
 };
 use crate::forms::{
     CHIPS, COMMANDS, DEFAULT_WORKERS, EVERY, MOST_CELLS, MOST_PROBES, MOST_SHARES, PART, PLAN,
-    PROBE, UNKNOWN, Verb, WORKERS,
+    PROBE, REPLAY, UNKNOWN, Verb, WORKERS,
 };
 use crate::size::Size;
 use std::alloc::{AllocError, Global};
@@ -70,18 +70,59 @@ fn share_in(settings: &[Name]) -> Option<Share>
     }
 }
 
+/// A run of a design over a stimulus with these settings, from the start values or from a state on.
+fn sim_with<'a>(design: &'a Name, stimulus: &'a Name, settings: &'a [Name]) -> PlainCommand<'a>
+    ensures { plain_view result ≡ spelled_sim_with (name_given replay_setting settings.now)
+        design.now stimulus.now (unknown_given settings.now) (probes_given settings.now) }
+{
+    let probes = PROBE.names(settings);
+    match REPLAY.name(settings) {
+        Some(state) => PlainCommand::Replay(ReplayWords {
+            design,
+            stimulus,
+            state,
+            probes,
+        }),
+        None => PlainCommand::Sim {
+            design,
+            stimulus,
+            unknown: UNKNOWN.bit(settings, false),
+            probes,
+        },
+    }
+}
+
 /// The command that words of the form of `sim` spell.
 fn sim_of(words: &[Name]) -> Option<Command<'_>>
     ensures { option_map command_view result ≡ sim_of words.now }
 {
     match words {
-        [_, design, stimulus, settings @ ..] => Some(Command::Plain(PlainCommand::Sim {
+        [_, design, stimulus, settings @ ..] => {
+            Some(Command::Plain(sim_with(design, stimulus, settings)))
+        }
+        _ => None,
+    }
+}
+
+/// The wave of a design over a stimulus with these settings, from the start values or from a state on.
+fn wave_with<'a>(design: &'a Name, stimulus: &'a Name, settings: &'a [Name]) -> PlainCommand<'a>
+    ensures { plain_view result ≡ spelled_wave_with (name_given replay_setting settings.now)
+        design.now stimulus.now (unknown_given settings.now) (probes_given settings.now) }
+{
+    let probes = PROBE.names(settings);
+    match REPLAY.name(settings) {
+        Some(state) => PlainCommand::ReplayWave(ReplayWords {
+            design,
+            stimulus,
+            state,
+            probes,
+        }),
+        None => PlainCommand::Wave {
             design,
             stimulus,
             unknown: UNKNOWN.bit(settings, false),
-            probes: PROBE.names(settings),
-        })),
-        _ => None,
+            probes,
+        },
     }
 }
 
@@ -90,12 +131,9 @@ fn wave_of(words: &[Name]) -> Option<Command<'_>>
     ensures { option_map command_view result ≡ wave_of words.now }
 {
     match words {
-        [_, design, stimulus, settings @ ..] => Some(Command::Plain(PlainCommand::Wave {
-            design,
-            stimulus,
-            unknown: UNKNOWN.bit(settings, false),
-            probes: PROBE.names(settings),
-        })),
+        [_, design, stimulus, settings @ ..] => {
+            Some(Command::Plain(wave_with(design, stimulus, settings)))
+        }
         _ => None,
     }
 }

@@ -102,10 +102,12 @@ module _ (design : Design) (watched : List Net) (flat : Flat) (made : IsFlatOf d
   last_state state [] = refl
   last_state state (row ∷ rows) = ap (λ (next : List Bool). state_after flat next rows) (next_agrees row state) ∙ last_state (path_next design row state) rows
 
+  -- what a netlist does from any state on is what its design does
+  pub histories_agree_from : (state : List Bool) (rows : List (List Bool)) → flat_history flat state rows ≡ path_history_from design watched state rows
+  histories_agree_from state rows = cc (all_outputs state rows, all_states state rows, last_state state rows)
+
+  -- and so from the start values on
   pub histories_agree : (unknown : Bool) (rows : List (List Bool))
       → flat_history flat (start_values unknown flat.cells) rows ≡ path_history design watched unknown rows
   histories_agree unknown rows =
-      ap (λ (state : List Bool). flat_history flat state rows) (start_agrees unknown) ∙ joined (path_start unknown design)
-    where
-      joined : (state : List Bool) → flat_history flat state rows ≡ path_history_from design watched state rows
-      joined state = cc (all_outputs state rows, all_states state rows, last_state state rows)
+      ap (λ (state : List Bool). flat_history flat state rows) (start_agrees unknown) ∙ histories_agree_from (path_start unknown design) rows

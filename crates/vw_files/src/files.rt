@@ -251,6 +251,23 @@ pub fn read_state<S: Shelf>(
     }
 }
 
+/// Reads the state with a name of these bytes, which a setting gives.
+pub fn read_given_state<S: Shelf>(
+    alloc: Global,
+    shelf: &mut S,
+    name: &[u8],
+    latches: u32,
+) -> Result<State, Unfinished>
+    ensures { EndsStage File.State name.now
+        (IsStateOf latches) (IsBadState latches)
+        (S.seen shelf.old) (S.seen shelf.new) result }
+{
+    match name.to_vec(alloc) {
+        Ok(bytes) => read_state(alloc, shelf, &Name::of(bytes), latches),
+        Err(_) => Err(Unfinished::NoMemory),
+    }
+}
+
 /// Reads the stimulus once, and checks that each of its rows has a bit for each input of a netlist. Its rows come when it
 /// is read again.
 pub fn check_rows<S: Shelf>(

@@ -9,6 +9,6 @@ mod probes;
 mod ready;
 
 pub use board_files::{BoardFiles, PlanBy};
-pub use files::{check_rows, read_design, read_named_design, read_state};
+pub use files::{check_rows, read_design, read_given_state, read_named_design, read_state};
 pub use probes::Probes;
 pub use ready::{ready_board, ready_on_board};

@@ -1,19 +1,22 @@
 //! Laws of the definitions, as contracts of functions that do nothing.
-ghost use Rattle.std.specs.Prelude.{◌≡◌, ◌≤◌, ◌+◌, ◌++◌, ℕ, Bool, List, length};
+ghost use Rattle.std.specs.Prelude.{◌≡◌, ◌≤◌, ◌+◌, ◌++◌, ◌^◌, ℕ, Bool, List, drop, length};
 ghost use Rattle.vw_net.specs.declared.flat.Flat.{Flat};
-ghost use Rattle.vw_net.specs.Cells.{start_values};
-ghost use Rattle.vw_net.specs.History.{state_after};
+ghost use Rattle.vw_net.specs.Cells.{latch_count, start_values};
+ghost use Rattle.vw_net.specs.History.{flat_history, state_after};
 ghost use Rattle.vw_rows.specs.declared.limits.TheConstants.{MOST_CLOCKS};
 ghost use Rattle.vw_trace.specs.FlatTrace.{flat_trace, trace_from};
+ghost use Rattle.vw_vcd.specs.Replayed.{ReplaysFrom};
+ghost use Rattle.vw_wave.specs.FlatWave.{signal_rows};
 ghost use Rattle.vw_resume.specs.declared.fault.StateFault.{StateFault};
 ghost use Rattle.vw_resume.specs.declared.limits.TheConstants.{LONGEST_STATE};
 ghost use Rattle.vw_resume.specs.declared.state.State.{State};
 ghost use Rattle.vw_resume.specs.Joined.{IsJoined};
-ghost use Rattle.vw_resume.specs.Resumed.{replayed_trace, resumed_trace};
+ghost use Rattle.vw_resume.specs.Resumed.{replayed_trace, replayed_wave, resumed_trace};
 ghost use Rattle.vw_resume.specs.Saved.{saved_text};
 ghost use Rattle.vw_resume.specs.States.{IsBadState, Spells};
 
 use vw_net::histories_join;
+use vw_wave::waves_of_runs_replay;
 
 /// A text spells one state at most.
 pub fn states_spell_once()
@@ -75,4 +78,17 @@ pub fn replays_join()
         (flat_trace probes unknown flat (rows ++ more)) }
 {
     traces_join();
+}
+
+/// The wave over all rows from the state after the first of them on begins at the clock behind these, and is replayed as what
+/// the signals of the whole run have from that clock on.
+pub fn waves_of_replays_replay()
+    ensures { (names : List (List ℕ)) (unknown : Bool) (flat : Flat) (rows more : List (List Bool))
+        → length names ≡ length flat.outputs + latch_count flat.cells → length (rows ++ more) ≤ 2 ^ 32
+        → let start = start_values unknown flat.cells in
+        ReplaysFrom (length rows) (replayed_wave names flat (length rows) (state_after flat start rows) (rows ++ more))
+        (length names) (drop (length rows) (signal_rows (flat_history flat start (rows ++ more)))) }
+{
+    histories_join();
+    waves_of_runs_replay();
 }

@@ -16,10 +16,10 @@ mod state;
 pub use fault::StateFault;
 pub use laws::{
     replays_join, saved_texts_spell_states, spelled_short, state_faults_are_single,
-    states_spell_once, traces_join,
+    states_spell_once, traces_join, waves_of_replays_replay,
 };
 pub use limits::LONGEST_STATE;
-pub use replaying::replay_trace;
+pub use replaying::{replay_trace, replay_wave};
 pub use resuming::{run_from, run_watched_from};
 pub use saving::{save, save_every};
 pub use state::State;

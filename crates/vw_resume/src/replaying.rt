@@ -8,14 +8,16 @@ ghost use Rattle.vw_rows.specs.Standing.{GaveMore};
 ghost use Rattle.vw_rows.specs.Stimulus.{is_text_fault};
 ghost use Rattle.vw_trace.specs.FlatTrace.{trace_from};
 ghost use Rattle.vw_trace.specs.Streamed.{Streams, clocks_left};
-ghost use Rattle.vw_resume.specs.Resumed.{replayed_trace};
+ghost use Rattle.vw_wave.specs.FlatWave.{wave_from};
+ghost use Rattle.vw_resume.specs.Resumed.{replayed_trace, replayed_wave};
 
 use crate::state::State;
 use std::alloc::Global;
 use vw_net::Ordered;
-use vw_outside::{Shelf, Sink};
+use vw_outside::{Name, Shelf, Sink};
 use vw_rows::{Rereading, StimFault};
 use vw_trace::{BATCH, RunFault, Simulation, merged_before, write_trace_by};
+use vw_wave::write_wave_by;
 
 /// Passes over the next rows of a stimulus, so many of them: they are read again, and dropped. Memory is taken for 256 of them
 /// at a time.
@@ -94,5 +96,62 @@ pub fn replay_trace<S: Shelf, O: Sink>(
     match merged_before(alloc, ordered, rows) {
         Some(merged) => simulate_from(alloc, &merged, probes, state, rows, out),
         None => simulate_from(alloc, ordered, probes, state, rows, out),
+    }
+}
+
+/// Simulates a netlist from a state on over all rows that a stimulus still gives, and appends its wave.
+fn wave_on<S: Shelf, O: Sink>(
+    alloc: Global,
+    ordered: &Ordered,
+    names: &[Name],
+    state: State,
+    rows: &mut Rereading<'_, '_, S>,
+    out: &mut O,
+) -> Result<(), RunFault>
+    requires columns { rows.old.stimulus.now.width ≡ ordered.now.flat.inputs }
+    requires names { length names.now ≡ length ordered.now.flat.outputs
+        + latch_count ordered.now.flat.cells }
+    requires latches { length state.latches ≡ latch_count ordered.now.flat.cells }
+    requires clocks { state.clock ≡ rows.old.stimulus.now.done }
+    ensures { Streams (wave_from names.now state.clock state.latches ordered.now.flat) (λ _. Unit {0})
+        rows.old rows.new (O.seen out.old) (O.seen out.new) result }
+{
+    let State { clock, latches } = state;
+    let mut simulation = Simulation::make(alloc, ordered, latches)?;
+    simulation.done = clock;
+    write_wave_by(alloc, &mut simulation, names, rows, out)
+}
+
+/// Simulates a netlist from a state on over the rows of a stimulus from the state's clock on, and appends its wave, whose
+/// first clock is the state's. Its signals are the outputs and behind them the latches, in the order of the cells; `names` are
+/// their printed nets. The rows before that clock are read again and passed over. Where there are many clocks, a netlist with
+/// fewer tables is run in its place.
+///
+/// The stimulus has at least as many clocks as the state, and none of its rows was given. Memory is taken for a batch of 256
+/// rows at a time. Where a read or a write fails or memory runs out, a front of the wave was appended, and before the state's
+/// clock nothing. Where nothing is told of the text of the stimulus, it may have changed since it was checked: then it may be
+/// found at fault, or the wave is that of other rows with the same width, as many as were counted.
+pub fn replay_wave<S: Shelf, O: Sink>(
+    alloc: Global,
+    ordered: &Ordered,
+    names: &[Name],
+    state: State,
+    rows: &mut Rereading<'_, '_, S>,
+    out: &mut O,
+) -> Result<(), RunFault>
+    requires columns { rows.old.stimulus.now.width ≡ ordered.now.flat.inputs }
+    requires names { length names.now ≡ length ordered.now.flat.outputs
+        + latch_count ordered.now.flat.cells }
+    requires latches { length state.latches ≡ latch_count ordered.now.flat.cells }
+    requires start { rows.old.stimulus.now.done ≡ 0 }
+    requires clocks { state.clock ≤ rows.old.stimulus.now.clocks }
+    ensures shelf { rows.new.shelf.ghost_name ≡ rows.old.shelf.ghost_name }
+    ensures streams { Streams (replayed_wave names.now ordered.now.flat state.clock state.latches) (λ _. Unit {0})
+        rows.old rows.new (O.seen out.old) (O.seen out.new) result }
+{
+    pass_over(alloc, rows, state.clock)?;
+    match merged_before(alloc, ordered, rows) {
+        Some(merged) => wave_on(alloc, &merged, names, state, rows, out),
+        None => wave_on(alloc, ordered, names, state, rows, out),
     }
 }

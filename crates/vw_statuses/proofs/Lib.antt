@@ -8,9 +8,11 @@ pub mod FewRows
 pub mod HeadlineLaw
 pub mod NetsLaws
 pub mod OnBoards
+pub mod PathPieces
 pub mod PieceLaws
 pub mod PlannedLaws
 pub mod PromisedTexts
+pub mod ReplayLaws
 pub mod ReportLaws
 pub mod ResumeLaws
 pub mod RunLaws

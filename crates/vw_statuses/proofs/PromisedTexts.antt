@@ -8,22 +8,24 @@ use Rattle.vw_course.specs.Course.{writes}
 use Rattle.vw_course.specs.Endings.{IsCallOf}
 use Rattle.vw_course.specs.Statuses.{IsDone}
 use Rattle.vw_course.proofs.CallTable.{call_table}
+use Rattle.vw_front.specs.Designs.{WatchedDesign}
 use Rattle.vw_plan.specs.declared.board.Board.{Board}
 use Rattle.vw_plan.specs.declared.plan.Plan.{Plan}
 use Rattle.vw_courses.specs.Messages.{vocabulary, Call, CallWork}
-use Rattle.vw_courses.specs.Commands.{course_of, netlist_state, plan_rest, saved_of, size_rest, texts_kept, trace_of, usage_course, wave_of}
+use Rattle.vw_courses.specs.Commands.{TextFrom, course_of, netlist_state, plan_rest, replay_course, replayed_trace_of, replayed_wave_of, saved_of, size_rest, texts_kept, trace_of, usage_course, wave_of}
 use Rattle.vw_courses.specs.MayPlan.{PlanBy, made_here, of_file, for_chips, by_file, by_chips}
 use Rattle.vw_courses.specs.Words.{Spelled}
 use Rattle.vw_courses.specs.Words as words
 use Rattle.vw_courses.proofs.TextsOfDesigns.{saves_agree}
 use Rattle.vw_statuses.specs.EmittedBoards.{BoardsShow}
 use Rattle.vw_statuses.specs.PlannedStatuses.{PlanTexts, HoldTexts}
-use Rattle.vw_statuses.specs.Promises.{AreHeld, Promise, WritesPlanned}
+use Rattle.vw_statuses.specs.Promises.{AreHeld, Promise, PromisesReplay, WritesPlanned}
 use Rattle.vw_statuses.specs.WrittenStatuses.{AlwaysFits, IsWritten, plan_text, size_text}
 use Rattle.vw_statuses.proofs.DemoLaws.{demo_table}
 use Rattle.vw_statuses.proofs.EmitLaws.{emit_table}
 use Rattle.vw_statuses.proofs.HeadlineLaw.{headline, writes_over}
 use Rattle.vw_statuses.proofs.NetsLaws.{nets_table}
+use Rattle.vw_statuses.proofs.ReplayLaws.{replay_traced}
 use Rattle.vw_statuses.proofs.ReportLaws.{report_ends}
 use Rattle.vw_statuses.proofs.ResumeLaws.{resume_traced}
 use Rattle.vw_statuses.proofs.RunLaws.{run_traced}
@@ -58,6 +60,19 @@ constant text call is status =
     let done = (call_table (writes {V = vocabulary} text) call is).done status in
     ap (λ (o : SeenOutside vocabulary.Word). o.out) done.leaves ∙ ap (λ (w : CallWork). appended call.before.out w.text) done.is
 
+-- a text of a design from a state on
+replayed : (probes : List Word) (text : TextFrom WatchedDesign) (design state stimulus : List ℕ) (call : Call) → IsCallOf (replay_course probes design state stimulus text) call → call.status ≡ 0
+    → PromisesReplay probes text design state stimulus call.before.shelf.told call.before.out call.after.out
+replayed probes text design state stimulus call is status d t s design_held state_held stimulus_held =
+    let done = (replay_traced probes text design state stimulus call is).ends.done (record { design = d; state = t }, s) (record { its_held = (design_held, state_held); stimulus_held = stimulus_held }) status in
+    record {
+      its = done.is.its;
+      rows = done.is.rows;
+      are = done.is.are.spells;
+      rows_are = done.is.are.rows_are;
+      wrote = ap (λ (o : SeenOutside vocabulary.Word). o.out) done.leaves ∙ ap (λ (w : CallWork). appended call.before.out w.text) done.is.is;
+    }
+
 pub promised : BoardsShow → (spelled : Spelled) (call : Call) → IsCallOf (course_of spelled) call → call.status ≡ 0
     → Promise spelled call.before.shelf.told call.before.out call.after.out
 promised show (words.sim design stimulus unknown probes) call is status = λ d s design_held stimulus_held.
@@ -75,6 +90,8 @@ promised show (words.grade design stimulus workers unknown share) call is status
       rows_are = done.is.are.rows_are;
       wrote = ap (λ (o : SeenOutside vocabulary.Word). o.out) done.leaves ∙ ap (λ (w : CallWork). appended call.before.out w.text) done.is.is;
     }
+promised show (words.replay design stimulus state probes) call is status = replayed probes replayed_trace_of design state stimulus call is status
+promised show (words.replay_wave design stimulus state probes) call is status = replayed probes (replayed_wave_of probes) design state stimulus call is status
 promised show (words.nets design probes) call is status = λ d design_held.
     let done = (nets_table probes design call is).ends.done d design_held status in
     record {

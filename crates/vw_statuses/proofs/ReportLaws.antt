@@ -1,13 +1,13 @@
 -- What each status of `report` says of its files.
-use Rattle.std.proofs.Common.{◌≡◌, ◌≤◌, ◌≢◌, ◌++◌, ◌⊎◌, ℕ, List, length, [], ◌∷◌, refl, sym, subst, inl, inr, ⊎_elim, arith}
+use Rattle.std.proofs.Common.{◌≡◌, ◌≤◌, ℕ, List, length, [], ◌∷◌, refl, sym, subst, inl, inr, ⊎_elim, arith}
 use Rattle.vw_net.specs.declared.ordered.Ordered.{Ordered}
 use Rattle.vw_design.specs.Paths.{Word}
-use Rattle.vw_outside.specs.Told.{Told, IsTextOf, held}
-use Rattle.vw_course.specs.Course.{Course, Making, made, stage, writing, writes}
-use Rattle.vw_course.specs.Follows.{Answer, Follows, May}
+use Rattle.vw_outside.specs.Told.{Told}
+use Rattle.vw_course.specs.Course.{Course, Making, made, stage, writing}
+use Rattle.vw_course.specs.Follows.{Answer, Follows}
 use Rattle.vw_course.specs.Endings.{IsCallOf}
 use Rattle.vw_course.specs.Outside.{SeenOutside}
-use Rattle.vw_course.specs.Places.{IsOneOf, Files, WorksHere, StandsAt, IsToWork}
+use Rattle.vw_course.specs.Places.{Files, WorksHere, StandsAt, IsToWork}
 use Rattle.vw_course.specs.Statuses.{NoWork, MayDo, EndStatuses}
 use Rattle.vw_course.proofs.Inductions.{its_text}
 use Rattle.vw_course.proofs.EveryPlace.{KeepsTo, again_one, comes}
@@ -26,9 +26,8 @@ use Rattle.vw_report.specs.declared.findings.Findings.{Findings}
 use Rattle.vw_report.specs.Findings.{AreFindings}
 use Rattle.vw_report.specs.Report.{report_of}
 use Rattle.vw_courses.specs.declared.vocabulary.File.TheVariants as kinds
-use Rattle.vw_courses.specs.declared.vocabulary.Reason.{Reason}
 use Rattle.vw_courses.specs.Messages.{vocabulary, Call, CallWork}
-use Rattle.vw_courses.specs.Kinds.{board_kind, named_kind, reporting}
+use Rattle.vw_courses.specs.Kinds.{board_kind, named_kind}
 use Rattle.vw_courses.specs.Commands.{Rest, on_board_course, plan_then, ready_course, report_course, report_rest}
 use Rattle.vw_courses.specs.MayPlan.{PlanBy, made_here, of_file, for_chips, IsPlanBy}
 use Rattle.vw_statuses.specs.PlannedStatuses.{PlanTexts, AreSpelled, HavePlan, HoldTexts, its_files, plan_statuses}

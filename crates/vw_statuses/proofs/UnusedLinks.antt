@@ -13,7 +13,7 @@ use Rattle.vw_batches.specs.Traffic.{scripts_of}
 use Rattle.vw_gen.specs.Summary.{summary}
 use Rattle.vw_courses.specs.Demo.{board_name, design_name, generated, stimulus_name}
 use Rattle.vw_courses.specs.Messages.{vocabulary, Call, CallWork}
-use Rattle.vw_courses.specs.Commands.{Scripts, no_links, IsSomeTrace, trace_course, rows_course, TextOver, over_design_course, netlist_trace, Rest, size_rest, plan_rest, emit_rest, ready_course, report_course, over_rows_course, resume_rest, course_of, demo_run}
+use Rattle.vw_courses.specs.Commands.{Scripts, no_links, IsSomeTrace, trace_course, rows_course, TextOver, TextFrom, over_design_course, replay_course, replayed_trace_of, replayed_wave_of, netlist_trace, Rest, size_rest, plan_rest, emit_rest, ready_course, report_course, over_rows_course, resume_rest, course_of, demo_run}
 use Rattle.vw_courses.specs.MayPlan.{PlanBy, made_here, of_file, for_chips, by_file, by_chips}
 use Rattle.vw_courses.specs.Words.{Spelled, uses_links}
 use Rattle.vw_courses.specs.Words as words
@@ -36,6 +36,11 @@ rows_unused stimulus width trace scripts none = λ text rows good. trace_unused 
 design_unused : (probes : List ProbeWord) (design stimulus : List ℕ) (text : TextOver WatchedDesign)
     → UsesNoLinks (over_design_course probes design stimulus text)
 design_unused probes design stimulus text = λ d watched good. rows_unused stimulus _ (text watched) no_links (λ rows. refl)
+
+-- so from a state on
+replay_unused : (probes : List ProbeWord) (design state stimulus : List ℕ) (text : TextFrom WatchedDesign)
+    → UsesNoLinks (replay_course probes design state stimulus text)
+replay_unused probes design state stimulus text = λ d watched good t one is s rows fine done reached. trace_unused stimulus _ (text one watched) no_links (λ all. refl) rows
 
 -- a planned board, whatever comes behind it
 ready_unused : (probes : List ProbeWord) (design board : List ℕ) (by : PlanBy) (rest : Rest)
@@ -65,6 +70,8 @@ course_unused : (spelled : Spelled) → uses_links spelled ≡ false → UsesNoL
 course_unused (words.sim design stimulus unknown probes) none = design_unused probes design stimulus _
 course_unused (words.wave design stimulus unknown probes) none = design_unused probes design stimulus _
 course_unused (words.grade design stimulus workers unknown share) none = λ d named good. rows_unused stimulus _ _ no_links (λ rows. refl)
+course_unused (words.replay design stimulus state probes) none = replay_unused probes design state stimulus replayed_trace_of
+course_unused (words.replay_wave design stimulus state probes) none = replay_unused probes design state stimulus (replayed_wave_of probes)
 course_unused (words.nets design probes) none = λ d named good. refl
 course_unused (words.check design board plan probes) none = ready_unused probes design board (of_file plan) size_rest (λ ordered its sound. refl)
 course_unused (words.plan design board chips probes) none = ready_unused probes design board (by_chips chips) plan_rest (λ ordered its plan. refl)

@@ -8,6 +8,7 @@ pub mod NetsStatuses
 pub mod Pieces
 pub mod PlannedStatuses
 pub mod Promises
+pub mod ReplayStatuses
 pub mod ReportStatuses
 pub mod ResumeStatuses
 pub mod RunStatuses

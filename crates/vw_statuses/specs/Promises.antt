@@ -1,15 +1,17 @@
 -- What each command has written where it ends with status 0, by its words and its files alone: no course, no message and no other
 -- status is spoken of.
-use Rattle.std.specs.Prelude.{◌≡◌, ℕ, Bool, List, Option, []}
+use Rattle.std.specs.Prelude.{◌≡◌, ℕ, Bool, List, Option, [], length}
 use Rattle.vw_net.specs.declared.ordered.Ordered.{Ordered}
 use Rattle.vw_design.specs.Paths.{Word}
+use Rattle.vw_design.specs.Clocks.{columns}
+use Rattle.vw_front.specs.Designs.{WatchedDesign}
 use Rattle.vw_front.specs.declared.named.NamedNetlist.{NamedNetlist}
 use Rattle.vw_front.specs.NamedNetlists.{IsNamedNetlistOf}
 use Rattle.vw_outside.specs.Told.{Told, held}
 use Rattle.vw_outside.specs.Writes.{SeenSink, appended}
 use Rattle.vw_plan.specs.declared.board.Board.{Board}
 use Rattle.vw_plan.specs.declared.plan.Plan.{Plan}
-use Rattle.vw_courses.specs.Commands.{grading_of, nets_text, saved_of, texts_kept, wave_of}
+use Rattle.vw_courses.specs.Commands.{TextFrom, grading_of, nets_text, replayed_trace_of, replayed_wave_of, saved_of, texts_kept, wave_of}
 use Rattle.vw_courses.specs.Help.{help_text, version_text}
 use Rattle.vw_courses.specs.Kinds.{IsRowsOf}
 use Rattle.vw_courses.specs.MayPlan.{PlanBy, made_here, of_file, for_chips, by_file, by_chips}
@@ -20,6 +22,7 @@ use Rattle.vw_statuses.specs.EmittedBoards.{WritesBoard}
 use Rattle.vw_statuses.specs.Headline.{WritesOver, WritesTrace}
 use Rattle.vw_statuses.specs.PlannedStatuses.{PlanTexts, AreSpelled}
 use Rattle.vw_statuses.specs.WrittenStatuses.{plan_text, size_text}
+use Rattle.vw_statuses.specs.ReplayStatuses.{AreReplayed, Replay}
 use Rattle.vw_statuses.specs.ReportStatuses.{ReportsPlan}
 use Rattle.vw_statuses.specs.ResumeStatuses.{AreResumed, Resumption, ResumeTexts, trace_from_state}
 
@@ -59,6 +62,19 @@ pub record WritesResumed (probes : List Word) (texts : ResumeTexts) (s : List �
   pub rows_are : IsRowsOf its.ordered.flat.inputs s rows
   pub wrote : after ≡ appended before (trace_from_state probes its rows)
 
+-- such a text of the design of one text, with probes, from the state of another on, over the rows of the third from its clock on
+pub record WritesReplayed (probes : List Word) (text : TextFrom WatchedDesign) (texts : ResumeTexts) (s : List ℕ) (before after : SeenSink) : Type 0 where
+  pub its : Replay
+  pub rows : List (List Bool)
+  pub are : AreReplayed probes texts its
+  pub rows_are : IsRowsOf (length (columns its.watched.design)) s rows
+  pub wrote : after ≡ appended before (text its.state its.watched rows)
+
+-- so for a command over these files
+abbrev pub PromisesReplay : List Word → TextFrom WatchedDesign → List ℕ → List ℕ → List ℕ → (List ℕ → Told) → SeenSink → SeenSink → Type 0
+PromisesReplay probes text design state stimulus told before after =
+    (d t s : List ℕ) → told design ≡ held d → told state ≡ held t → told stimulus ≡ held s → WritesReplayed probes text (record { design = d; state = t }) s before after
+
 -- the texts of the design, the board, and the plan or the chips that are given, are held
 abbrev pub AreHeld : (List ℕ → Told) → List ℕ → List ℕ → PlanBy → PlanTexts → Type 0
 AreHeld told design board made_here texts = (told design ≡ held texts.design) × (told board ≡ held texts.board)
@@ -70,6 +86,8 @@ abbrev pub Promise : Spelled → (List ℕ → Told) → SeenSink → SeenSink �
 Promise (words.sim design stimulus unknown probes) told before after = (d s : List ℕ) → told design ≡ held d → told stimulus ≡ held s → WritesTrace probes unknown d s before after
 Promise (words.wave design stimulus unknown probes) told before after = (d s : List ℕ) → told design ≡ held d → told stimulus ≡ held s → WritesOver probes (wave_of probes unknown) d s before after
 Promise (words.grade design stimulus workers unknown share) told before after = (d s : List ℕ) → told design ≡ held d → told stimulus ≡ held s → WritesGrading share unknown d s before after
+Promise (words.replay design stimulus state probes) told before after = PromisesReplay probes replayed_trace_of design state stimulus told before after
+Promise (words.replay_wave design stimulus state probes) told before after = PromisesReplay probes (replayed_wave_of probes) design state stimulus told before after
 Promise (words.nets design probes) told before after = (d : List ℕ) → told design ≡ held d → WritesNetlist probes d before after
 Promise (words.check design board plan probes) told before after = (texts : PlanTexts) → AreHeld told design board (of_file plan) texts → WritesPlanned probes (of_file plan) size_text texts before after
 Promise (words.plan design board chips probes) told before after = (texts : PlanTexts) → AreHeld told design board (by_chips chips) texts → WritesPlanned probes (by_chips chips) plan_text texts before after

@@ -6,28 +6,29 @@ ghost use Rattle.vw_design.specs.Paths.{Word};
 ghost use Rattle.vw_course.specs.Endings.{IsCallOf};
 ghost use Rattle.vw_course.specs.Statuses.{Holds, Statuses};
 ghost use Rattle.vw_courses.specs.Words.{Spelled, command_forms, help, spelled_by, uses_links, version};
-ghost use Rattle.vw_courses.specs.Commands.{check_course, course_of, demo_course, emit_course, grade_course, nets_course, plan_course, report_course, resume_course, run_course, save_course, saved_of, sim_course, texts_kept, trace_of, usage_course, wave_course, wave_of};
+ghost use Rattle.vw_courses.specs.Commands.{check_course, course_of, demo_course, emit_course, grade_course, nets_course, plan_course, replay_course, replayed_trace_of, replayed_wave_of, report_course, resume_course, run_course, save_course, saved_of, sim_course, texts_kept, trace_of, usage_course, wave_course, wave_of};
 ghost use Rattle.vw_courses.specs.MayPlan.{PlanBy};
 ghost use Rattle.vw_courses.specs.Messages.{Call};
 ghost use Rattle.vw_statuses.specs.Headline.{Headline, WritesTrace};
 ghost use Rattle.vw_statuses.specs.Promises.{Promise};
-ghost use Rattle.vw_statuses.specs.WaveLaw.{WavesReplay};
+ghost use Rattle.vw_statuses.specs.WaveLaw.{ReplayedWavesReplay, WavesReplay};
 ghost use Rattle.vw_statuses.specs.UsageStatuses.{UsageStatuses};
 ghost use Rattle.vw_statuses.specs.SimStatuses.{GradeStatuses, SimStatuses};
 ghost use Rattle.vw_statuses.specs.NetsStatuses.{NetsStatuses};
 ghost use Rattle.vw_statuses.specs.EmittedBoards.{BoardsShow};
 ghost use Rattle.vw_statuses.specs.EmitStatuses.{EmitStatuses};
 ghost use Rattle.vw_statuses.specs.WrittenStatuses.{CheckStatuses, PlanStatuses};
+ghost use Rattle.vw_statuses.specs.ReplayStatuses.{ReplayStatuses};
 ghost use Rattle.vw_statuses.specs.ReportStatuses.{ReportStatuses};
 ghost use Rattle.vw_statuses.specs.RunStatuses.{RunStatuses};
-ghost use Rattle.vw_statuses.specs.Pieces.{PiecesJoin, WatchedPiecesJoin};
+ghost use Rattle.vw_statuses.specs.Pieces.{PiecesJoin, ReplaysJoin, WatchedPiecesJoin};
 ghost use Rattle.vw_statuses.specs.ResumeStatuses.{ResumeStatuses};
 ghost use Rattle.vw_statuses.specs.ConstantStatuses.{ConstantStatuses};
 ghost use Rattle.vw_courses.specs.Help.{help_text, version_text};
 ghost use Rattle.vw_statuses.specs.DemoStatuses.{DemoStatuses};
 
 use vw_emit::emitted_texts_show_their_designs;
-use vw_resume::traces_join;
+use vw_resume::{traces_join, waves_of_replays_replay};
 use vw_wave::waves_of_runs_replay;
 use vw_words::wrong_words_follow_the_longest_front;
 
@@ -72,12 +73,37 @@ pub fn wave_statuses()
         → SimStatuses probes (wave_of probes unknown) design stimulus call }
 {}
 
+/// What each status of a `sim` from a state on says of its files: after status 0, out has the trace of the design from the
+/// state on, over the rows of the stimulus from the state's clock on.
+pub fn replay_statuses()
+    ensures { (probes : List Word) (design state stimulus : List ℕ) (call : Call)
+        → IsCallOf (replay_course probes design state stimulus replayed_trace_of) call
+        → ReplayStatuses probes replayed_trace_of design state stimulus call }
+{}
+
+/// What each status of a `wave` from a state on says of its files: after status 0, out has the wave of the design from the
+/// state on, whose first clock is the state's.
+pub fn replay_wave_statuses()
+    ensures { (probes : List Word) (design state stimulus : List ℕ) (call : Call)
+        → IsCallOf (replay_course probes design state stimulus (replayed_wave_of probes)) call
+        → ReplayStatuses probes (replayed_wave_of probes) design state stimulus call }
+{}
+
 /// What a viewer finds in the wave of a design, with 64 probes at most: at each clock each output, probe and latch has its
 /// bit, the last time is the number of clocks, and each value behind the first block is a change.
 pub fn waves_show_designs()
     ensures { WavesReplay }
 {
     waves_of_runs_replay();
+}
+
+/// What a viewer finds in the wave of a design from the state on that `save` writes of the first rows, with 64 probes at most:
+/// its first time is the state's clock, and at each clock from there on each output, probe and latch has the bit that it has in the
+/// whole run.
+pub fn replayed_waves_show_designs()
+    ensures { ReplayedWavesReplay }
+{
+    waves_of_replays_replay();
 }
 
 /// What each status of `grade` says of its files, whatever the number of workers: after status 0, out has the grading of the
@@ -155,6 +181,12 @@ pub fn pieces_join()
 {
     traces_join();
 }
+
+/// What `sim` writes of the first rows, joined line by line with what it writes of all rows from the state on that `save` writes
+/// of the first, is what it writes of all, with the same probes. So a replay is the tail of the whole trace.
+pub fn replays_of_designs_join()
+    ensures { ReplaysJoin }
+{}
 
 /// What `emit` writes, by a plan that is given or by one that it makes, spells a design that runs. Simulated by any
 /// tool, with each row held for one clock more than the period, it shows in the last of these clocks the outputs of the

@@ -38,6 +38,18 @@ $end
 #3
 ";
 
+/// Three clocks of these signals from clock 255 on.
+const LATER: &[u8] = b"#255
+$dumpvars
+1!
+1\"
+$end
+#257
+0!
+0\"
+#258
+";
+
 /// Nets with bytes that names don't have.
 const ODD_NAMES: &[u8] = b"$timescale 1 s $end
 $scope module design $end
@@ -88,7 +100,7 @@ fn both(alloc: Global, bit: bool) -> Result<Bits, AllocError>
 fn two_signals_toggle(rt: HostRuntime) -> Result<(), Fail> {
     let alloc = rt.alloc();
     let mut text = head_of(alloc, b"q", b"q")?;
-    let mut wave = Wave::make(alloc, 2)?;
+    let mut wave = Wave::make(alloc, 0, 2)?;
     wave.push_row(&mut text, &both(alloc, false)?)?;
     let lines = wave.row(alloc, &both(alloc, true)?)?;
     text.extend_from_slice(&lines)?;
@@ -99,10 +111,24 @@ fn two_signals_toggle(rt: HostRuntime) -> Result<(), Fail> {
 }
 
 #[test]
+fn a_wave_begins_at_any_clock_with_all_values(rt: HostRuntime) -> Result<(), Fail> {
+    let alloc = rt.alloc();
+    let mut text = Vec::new(alloc);
+    let mut wave = Wave::make(alloc, 255, 2)?;
+    wave.push_row(&mut text, &both(alloc, true)?)?;
+    wave.push_row(&mut text, &both(alloc, true)?)?;
+    wave.push_row(&mut text, &both(alloc, false)?)?;
+    text.extend_from_slice(&wave.end(alloc)?)?;
+    is_text(&rt, &text, LATER);
+    Ok(())
+}
+
+#[test]
 fn a_wave_without_clocks_has_its_last_line_alone(rt: HostRuntime) -> Result<(), Fail> {
     let alloc = rt.alloc();
     is_text(&rt, &head_of(alloc, b"q", b"q")?, HEAD);
-    is_text(&rt, &Wave::make(alloc, 2)?.end(alloc)?, b"#0\n");
+    is_text(&rt, &Wave::make(alloc, 0, 2)?.end(alloc)?, b"#0\n");
+    is_text(&rt, &Wave::make(alloc, 257, 2)?.end(alloc)?, b"#257\n");
     Ok(())
 }
 
@@ -118,8 +144,8 @@ fn names_have_letters_digits_and_underscores(rt: HostRuntime) -> Result<(), Fail
 
 /// Appends the lines of 257 clocks with one row.
 fn push_rest(wave: &mut Wave, text: &mut Vec<u8>, row: &Bits) -> Result<(), AllocError>
-    requires fresh { wave.old.clocks ≡ 0 }
-    requires signals { length row.now ≡ length wave.old.last }
+    requires fresh { wave.old.clock ≡ 0 }
+    requires signals { length row.now ≡ wave.old.signals }
 {
     for _ in 0..257u32 {
         wave.push_row(text, row)?;
@@ -131,7 +157,7 @@ fn push_rest(wave: &mut Wave, text: &mut Vec<u8>, row: &Bits) -> Result<(), Allo
 fn a_signal_at_rest_takes_few_bytes(rt: HostRuntime) -> Result<(), Fail> {
     let alloc = rt.alloc();
     let mut text = Vec::new(alloc);
-    let mut wave = Wave::make(alloc, 1)?;
+    let mut wave = Wave::make(alloc, 0, 1)?;
     let row = Bits::of(vec![in alloc; false; 1]?);
     push_rest(&mut wave, &mut text, &row)?;
     text.extend_from_slice(&wave.end(alloc)?)?;

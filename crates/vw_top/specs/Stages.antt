@@ -6,7 +6,7 @@ use Rattle.vw_plan.specs.PlannedBoard.{PlannedBoard}
 use Rattle.std.specs.Global.{Vec}
 use Rattle.vw_emit_text.specs.Emitted.{FitsDesigns, emitted_text}
 use Rattle.vw_report.specs.Report.{IsReport}
-use Rattle.vw_resume.specs.declared.fault.StateFault.TheVariants.{TooManyClocks}
+use Rattle.vw_resume.specs.declared.fault.StateFault.TheVariants.{TooManyClocks, TooFewClocks}
 use Rattle.vw_rows.specs.declared.limits.TheConstants.{MOST_CLOCKS}
 use Rattle.vw_trace.specs.declared.fault.RunFault.{RunFault}
 use Rattle.vw_trace.specs.declared.fault.RunFault.TheVariants as runs
@@ -41,3 +41,9 @@ abbrev pub EndsClocks : ℕ → ℕ → Result (Unit {0}) (Unfinished File Reaso
 EndsClocks before clocks (Ok done) = before + clocks ≤ MOST_CLOCKS
 EndsClocks before clocks (Err unfinished) =
     (unfinished ≡ Refused (reasons.State (TooManyClocks (before + clocks)))) × (MOST_CLOCKS < before + clocks)
+
+-- so many clocks reach a state before this one, or they are too few
+abbrev pub EndsReach : ℕ → ℕ → Result (Unit {0}) (Unfinished File Reason) → Type 0
+EndsReach clock clocks (Ok done) = clock ≤ clocks
+EndsReach clock clocks (Err unfinished) =
+    (unfinished ≡ Refused (reasons.State (TooFewClocks clocks clock))) × (clocks < clock)

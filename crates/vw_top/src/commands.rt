@@ -16,6 +16,8 @@ use crate::grade::grade;
 use crate::help::{help, version};
 use crate::nets::nets;
 use crate::plan::plan;
+use crate::replay::replay;
+use crate::replay_wave::replay_wave;
 use crate::report::write_report;
 use crate::resume::resume;
 use crate::run::{run_by_one, run_by_several};
@@ -66,6 +68,30 @@ fn carry_out<S: Shelf, O: Sink>(
             let probes = probes_of(alloc, probes)?;
             let probes = Probes { nets: &probes };
             wave(alloc, design, probes, stimulus, unknown, outside)
+        }
+        PlainCommand::Replay(words) => {
+            let probes = probes_of(alloc, words.probes)?;
+            let probes = Probes { nets: &probes };
+            replay(
+                alloc,
+                words.design,
+                probes,
+                words.state,
+                words.stimulus,
+                outside,
+            )
+        }
+        PlainCommand::ReplayWave(words) => {
+            let probes = probes_of(alloc, words.probes)?;
+            let probes = Probes { nets: &probes };
+            replay_wave(
+                alloc,
+                words.design,
+                probes,
+                words.state,
+                words.stimulus,
+                outside,
+            )
         }
         PlainCommand::Nets { design, probes } => {
             let probes = probes_of(alloc, probes)?;

@@ -12,6 +12,7 @@ ghost use Rattle.vw_files.specs.Ready.{by_of};
 ghost use Rattle.vw_top.specs.Stages.{EndsClocks, run_answer};
 
 use crate::answer::run_answer;
+use crate::latches::latch_count;
 use std::alloc::Global;
 use std::marker::Sync;
 use std::sync::Wait;
@@ -20,26 +21,11 @@ use vw_batches::Floor;
 use vw_course::Outside;
 use vw_courses::{Reason, Unfinished};
 use vw_files::{BoardFiles, check_rows, read_state, ready_board};
-use vw_net::Cell;
 use vw_outside::{BurstGate, Name, Shelf, Sink};
 use vw_plan::Checked;
 use vw_prog::Fabric;
 use vw_resume::{ResumeFault, State, StateFault, run_watched_from};
 use vw_rows::{MOST_CLOCKS, Rereading};
-
-/// The number of latches among cells.
-fn latch_count(cells: &[Cell]) -> u32
-    requires { length cells.now ≤ 65536 }
-    ensures { result ≡ latch_count cells.now }
-{
-    let mut count = 0;
-    for cell in cells {
-        if let Cell::Latch { .. } = cell {
-            count += 1;
-        }
-    }
-    count
-}
 
 /// Whether so many clocks can follow those before a state: a trace numbers no more than 4,294,967,295.
 fn clocks_fit(before: u64, clocks: u64) -> Result<(), Unfinished>

@@ -1,5 +1,5 @@
 -- What a wave declares and gives, and the last time that it names: by what its lines say.
-use Rattle.std.proofs.Common.{◌≡◌, ◌+◌, ◌++◌, ◌==◌, ◌∙◌, ℕ, Bool, true, false, List, [], ◌∷◌, length, map, if◌then◌else◌, ap, refl, sym, append_assoc}
+use Rattle.std.proofs.Common.{◌≡◌, ◌+◌, ◌++◌, ◌∙◌, ℕ, Bool, true, false, List, [], ◌∷◌, Option, Some, None, length, map, ap, refl, sym, append_assoc}
 use Rattle.std.specs.List.{range_with_len}
 use Rattle.vw_vcd.specs.Identifiers.{identifier}
 use Rattle.vw_vcd.specs.Changes.{of_each, of_changed, under}
@@ -9,13 +9,14 @@ use Rattle.vw_vcd.proofs.StatedLines.{value_stated, vars_stated, head_stated, cl
 use Rattle.vw_vcd.proofs.LastGiven.{given_in}
 
 -- what a clock gives
-abbrev pub clock_given : (ℕ → List ℕ) → ℕ → List Bool → List Bool → List GivenValue
-clock_given id clock before bits = if clock == 0 then of_each (given_in id clock true) 0 bits else of_changed (given_in id clock false) 0 before bits
+abbrev pub clock_given : (ℕ → List ℕ) → ℕ → Option (List Bool) → List Bool → List GivenValue
+clock_given id clock None bits = of_each (given_in id clock true) 0 bits
+clock_given id clock (Some before) bits = of_changed (given_in id clock false) 0 before bits
 
 -- what clocks give
-abbrev pub clocks_given : (ℕ → List ℕ) → ℕ → List Bool → List (List Bool) → List GivenValue
+abbrev pub clocks_given : (ℕ → List ℕ) → ℕ → Option (List Bool) → List (List Bool) → List GivenValue
 clocks_given id clock before [] = []
-clocks_given id clock before (bits ∷ rows) = clock_given id clock before bits ++ clocks_given id (clock + 1) bits rows
+clocks_given id clock before (bits ∷ rows) = clock_given id clock before bits ++ clocks_given id (clock + 1) (Some bits) rows
 
 -- ---- values
 
@@ -44,23 +45,25 @@ under_gives : (time clock : ℕ) (kinds rest : List Statement) (all further : Li
 under_gives time clock [] rest all further steady is = steady time ∙ sym (steady clock) ∙ is
 under_gives time clock (kind ∷ kinds) rest all further steady is = is
 
--- clocks give their values, whatever time was named before
-clocks_give : (clock : ℕ) (before : List Bool) (rows : List (List Bool)) (last time : ℕ)
+-- a clock gives its values, whatever time was named before, where that doesn't matter for what follows
+clock_gives : (clock : ℕ) (before : Option (List Bool)) (bits : List Bool) (time : ℕ) (rest : List Statement) (further : List GivenValue) → ((from : ℕ) → given_values from false rest ≡ further)
+    → given_values time false (clock_stated clock before bits ++ rest) ≡ clock_given identifier clock before bits ++ further
+clock_gives clock None bits time rest further steady =
+    ap (given_values clock true) (append_assoc (of_each value_stated 0 bits) (ends_block ∷ []) rest)
+    ∙ each_gives clock true 0 bits (ends_block ∷ rest)
+    ∙ ap (λ (more : List GivenValue). of_each (given_in identifier clock true) 0 bits ++ more) (steady clock)
+clock_gives clock (Some before) bits time rest further steady =
+    under_gives time clock (of_changed value_stated 0 before bits) rest (of_changed (given_in identifier clock false) 0 before bits ++ further) further steady
+    (changed_gives clock false 0 before bits rest ∙ ap (λ (more : List GivenValue). of_changed (given_in identifier clock false) 0 before bits ++ more) (steady clock))
+
+-- so it is with clocks
+clocks_give : (clock : ℕ) (before : Option (List Bool)) (rows : List (List Bool)) (last time : ℕ)
     → given_values time false (clocks_stated clock before rows ++ names_time last ∷ []) ≡ clocks_given identifier clock before rows
 clocks_give clock before [] last time = refl
 clocks_give clock before (bits ∷ rows) last time =
-    ap (given_values time false) (append_assoc (clock_stated clock before bits) (clocks_stated (clock + 1) bits rows) (names_time last ∷ []))
-    ∙ by (clocks_stated (clock + 1) bits rows ++ names_time last ∷ []) (clocks_given identifier (clock + 1) bits rows) (λ (from : ℕ). clocks_give (clock + 1) bits rows last from) (clock == 0) where
-      by : (rest : List Statement) (further : List GivenValue) → ((from : ℕ) → given_values from false rest ≡ further) → (is_first : Bool)
-          → given_values time false ((if is_first then names_time clock ∷ begins_block ∷ (of_each value_stated 0 bits ++ ends_block ∷ []) else under (names_time clock) (of_changed value_stated 0 before bits)) ++ rest)
-          ≡ (if is_first then of_each (given_in identifier clock true) 0 bits else of_changed (given_in identifier clock false) 0 before bits) ++ further
-      by rest further steady true =
-          ap (given_values clock true) (append_assoc (of_each value_stated 0 bits) (ends_block ∷ []) rest)
-          ∙ each_gives clock true 0 bits (ends_block ∷ rest)
-          ∙ ap (λ (more : List GivenValue). of_each (given_in identifier clock true) 0 bits ++ more) (steady clock)
-      by rest further steady false =
-          under_gives time clock (of_changed value_stated 0 before bits) rest (of_changed (given_in identifier clock false) 0 before bits ++ further) further steady
-          (changed_gives clock false 0 before bits rest ∙ ap (λ (more : List GivenValue). of_changed (given_in identifier clock false) 0 before bits ++ more) (steady clock))
+    let further = clocks_stated (clock + 1) (Some bits) rows in
+    ap (given_values time false) (append_assoc (clock_stated clock before bits) further (names_time last ∷ []))
+    ∙ clock_gives clock before bits time (further ++ names_time last ∷ []) (clocks_given identifier (clock + 1) (Some bits) rows) (λ (from : ℕ). clocks_give (clock + 1) (Some bits) rows last from)
 
 -- the signals of the head give none
 vars_give : (number : ℕ) (nets : List (List ℕ)) (rest : List Statement) → given_values 0 false (vars_stated number nets ++ rest) ≡ given_values 0 false rest
@@ -68,12 +71,12 @@ vars_give number [] rest = refl
 vars_give number (net ∷ nets) rest = vars_give (number + 1) nets rest
 
 -- a wave gives what its clocks give
-pub wave_gives : (nets : List (List ℕ)) (rows : List (List Bool)) → given_values 0 false (wave_stated nets rows) ≡ clocks_given identifier 0 [] rows
-wave_gives nets rows =
-    let rest = clocks_stated 0 [] rows ++ names_time (length rows) ∷ [] in
+pub wave_gives : (first : ℕ) (nets : List (List ℕ)) (rows : List (List Bool)) → given_values 0 false (wave_stated first nets rows) ≡ clocks_given identifier first None rows
+wave_gives first nets rows =
+    let rest = clocks_stated first None rows ++ names_time (first + length rows) ∷ [] in
     ap (given_values 0 false) (append_assoc (vars_stated 0 nets) (says_nothing ∷ says_nothing ∷ []) rest)
     ∙ vars_give 0 nets (says_nothing ∷ says_nothing ∷ rest)
-    ∙ clocks_give 0 [] rows (length rows) 0
+    ∙ clocks_give first None rows (first + length rows) 0
 
 -- ---- identifiers
 
@@ -102,23 +105,25 @@ under_declares : (clock : ℕ) (kinds rest : List Statement) → declared_ids (k
 under_declares clock [] rest none = none
 under_declares clock (kind ∷ kinds) rest none = none
 
--- so clocks declare none
-clocks_declare : (clock : ℕ) (before : List Bool) (rows : List (List Bool)) (last : ℕ) → declared_ids (clocks_stated clock before rows ++ names_time last ∷ []) ≡ []
+-- so a clock declares none
+clock_declares : (clock : ℕ) (before : Option (List Bool)) (bits : List Bool) (rest : List Statement) → declared_ids rest ≡ [] → declared_ids (clock_stated clock before bits ++ rest) ≡ []
+clock_declares clock None bits rest none = ap declared_ids (append_assoc (of_each value_stated 0 bits) (ends_block ∷ []) rest) ∙ each_declares 0 bits (ends_block ∷ rest) none
+clock_declares clock (Some before) bits rest none = under_declares clock (of_changed value_stated 0 before bits) rest (changed_declares 0 before bits rest none)
+
+-- nor do clocks
+clocks_declare : (clock : ℕ) (before : Option (List Bool)) (rows : List (List Bool)) (last : ℕ) → declared_ids (clocks_stated clock before rows ++ names_time last ∷ []) ≡ []
 clocks_declare clock before [] last = refl
 clocks_declare clock before (bits ∷ rows) last =
-    ap declared_ids (append_assoc (clock_stated clock before bits) (clocks_stated (clock + 1) bits rows) (names_time last ∷ []))
-    ∙ by (clocks_stated (clock + 1) bits rows ++ names_time last ∷ []) (clocks_declare (clock + 1) bits rows last) (clock == 0) where
-      by : (rest : List Statement) → declared_ids rest ≡ [] → (is_first : Bool)
-          → declared_ids ((if is_first then names_time clock ∷ begins_block ∷ (of_each value_stated 0 bits ++ ends_block ∷ []) else under (names_time clock) (of_changed value_stated 0 before bits)) ++ rest) ≡ []
-      by rest none true = ap declared_ids (append_assoc (of_each value_stated 0 bits) (ends_block ∷ []) rest) ∙ each_declares 0 bits (ends_block ∷ rest) none
-      by rest none false = under_declares clock (of_changed value_stated 0 before bits) rest (changed_declares 0 before bits rest none)
+    let further = clocks_stated (clock + 1) (Some bits) rows in
+    ap declared_ids (append_assoc (clock_stated clock before bits) further (names_time last ∷ []))
+    ∙ clock_declares clock before bits (further ++ names_time last ∷ []) (clocks_declare (clock + 1) (Some bits) rows last)
 
 -- a wave declares an identifier for each signal
-pub wave_declares : (nets : List (List ℕ)) (rows : List (List Bool)) → declared_ids (wave_stated nets rows) ≡ map identifier (range_with_len 0 (length nets))
-wave_declares nets rows =
-    let rest = clocks_stated 0 [] rows ++ names_time (length rows) ∷ [] in
+pub wave_declares : (first : ℕ) (nets : List (List ℕ)) (rows : List (List Bool)) → declared_ids (wave_stated first nets rows) ≡ map identifier (range_with_len 0 (length nets))
+wave_declares first nets rows =
+    let rest = clocks_stated first None rows ++ names_time (first + length rows) ∷ [] in
     ap declared_ids (append_assoc (vars_stated 0 nets) (says_nothing ∷ says_nothing ∷ []) rest)
-    ∙ vars_declare 0 nets (says_nothing ∷ says_nothing ∷ rest) (clocks_declare 0 [] rows (length rows))
+    ∙ vars_declare 0 nets (says_nothing ∷ says_nothing ∷ rest) (clocks_declare first None rows (first + length rows))
 
 -- ---- the last time
 
@@ -132,8 +137,10 @@ last_behind (begins_block ∷ kinds) rest last is time = last_behind kinds rest 
 last_behind (ends_block ∷ kinds) rest last is time = last_behind kinds rest last is time
 last_behind (says_nothing ∷ kinds) rest last is time = last_behind kinds rest last is time
 
--- that of a wave is the number of its clocks
-pub wave_ends : (nets : List (List ℕ)) (rows : List (List Bool)) → last_time 0 (wave_stated nets rows) ≡ length rows
-wave_ends nets rows =
-    let end = names_time (length rows) ∷ [] in
-    last_behind (head_stated nets) (clocks_stated 0 [] rows ++ end) (length rows) (last_behind (clocks_stated 0 [] rows) end (length rows) (λ (time : ℕ). refl)) 0
+-- that of a wave is the number behind its last clock
+pub wave_ends : (first : ℕ) (nets : List (List ℕ)) (rows : List (List Bool)) → last_time 0 (wave_stated first nets rows) ≡ first + length rows
+wave_ends first nets rows =
+    let clocks = clocks_stated first None rows in
+    let last : ℕ = first + length rows in
+    let end = names_time last ∷ [] in
+    last_behind (head_stated nets) (clocks ++ end) last (last_behind clocks end last (λ (time : ℕ). refl)) 0

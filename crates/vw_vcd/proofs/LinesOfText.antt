@@ -1,5 +1,5 @@
 -- The lines of a wave are those of its text, since no byte in them ends a line.
-use Rattle.std.proofs.Common.{◌≡◌, ◌+◌, ◌++◌, ◌==◌, ◌||◌, ◌∙◌, ℕ, Bool, true, false, List, [], ◌∷◌, length, map, ap, refl, sym, append_assoc, true≢false, arith}
+use Rattle.std.proofs.Common.{◌≡◌, ◌+◌, ◌++◌, ◌==◌, ◌||◌, ◌∙◌, ℕ, Bool, true, false, List, [], ◌∷◌, Option, Some, None, length, map, ap, refl, sym, append_assoc, true≢false, arith}
 use Rattle.std.specs.Prelude.{codes}
 use Rattle.std.specs.Char.{is_ascii_alphanumeric}
 use Rattle.std.specs.List.{AllByRecursion, list_any}
@@ -12,7 +12,7 @@ use Rattle.vw_text.proofs.FirstLine.{ends_line, line_first}
 use Rattle.vw_text.proofs.FoundBytes.{HasNo}
 use Rattle.vw_vcd.specs.Identifiers.{identifier}
 use Rattle.vw_vcd.specs.Changes.{of_each, of_changed, under}
-use Rattle.vw_vcd.specs.Lines.{name_byte, signal_name, var_line, var_lines, lines_of_head, time_line, value_line, lines_of_clock, lines_of_clocks, wave_lines, wave_text}
+use Rattle.vw_vcd.specs.Lines.{name_byte, signal_name, var_line, var_lines, lines_of_head, time_line, value_line, lines_of_clock, lines_of_clocks, wave_lines_from, wave_text_from}
 use Rattle.vw_vcd.proofs.Digits.{identifier_without}
 
 -- no byte ends a line
@@ -117,23 +117,21 @@ under_is line [] whole all = tt
 under_is line (other ∷ lines) whole all = (whole, all)
 
 -- the lines of a clock
-clock_is : (clock : ℕ) (before bits : List Bool) → AreWhole (lines_of_clock clock before bits)
-clock_is clock before bits =
-    let end = codes "$end" ∷ [] in
-    cond_both (clock == 0) (time_line clock ∷ codes "$dumpvars" ∷ (of_each value_line 0 bits ++ end)) (under (time_line clock) (of_changed value_line 0 before bits)) AreWhole
-    (λ first. (time_is clock, (tried (codes "$dumpvars") refl, all_append IsWhole (of_each value_line 0 bits) end (each_is 0 bits) (tried (codes "$end") refl, tt))))
-    (λ later. under_is (time_line clock) (of_changed value_line 0 before bits) (time_is clock) (changed_is 0 before bits))
+clock_is : (clock : ℕ) (before : Option (List Bool)) (bits : List Bool) → AreWhole (lines_of_clock clock before bits)
+clock_is clock None bits =
+    (time_is clock, (tried (codes "$dumpvars") refl, all_append IsWhole (of_each value_line 0 bits) (codes "$end" ∷ []) (each_is 0 bits) (tried (codes "$end") refl, tt)))
+clock_is clock (Some before) bits = under_is (time_line clock) (of_changed value_line 0 before bits) (time_is clock) (changed_is 0 before bits)
 
 -- the lines of clocks
-clocks_are : (clock : ℕ) (before : List Bool) (rows : List (List Bool)) → AreWhole (lines_of_clocks clock before rows)
+clocks_are : (clock : ℕ) (before : Option (List Bool)) (rows : List (List Bool)) → AreWhole (lines_of_clocks clock before rows)
 clocks_are clock before [] = tt
 clocks_are clock before (bits ∷ rows) =
-    all_append IsWhole (lines_of_clock clock before bits) (lines_of_clocks (clock + 1) bits rows) (clock_is clock before bits) (clocks_are (clock + 1) bits rows)
+    all_append IsWhole (lines_of_clock clock before bits) (lines_of_clocks (clock + 1) (Some bits) rows) (clock_is clock before bits) (clocks_are (clock + 1) (Some bits) rows)
 
 -- so the lines of a wave are those of its text
-pub wave_again : (nets : List (List ℕ)) (rows : List (List Bool)) → text_lines (wave_text nets rows) ≡ wave_lines nets rows
-wave_again nets rows =
-    let clocks = lines_of_clocks 0 [] rows in
-    let end = time_line (length rows) ∷ [] in
-    lines_again (wave_lines nets rows)
-    (all_append IsWhole (lines_of_head nets) (clocks ++ end) (head_is nets) (all_append IsWhole clocks end (clocks_are 0 [] rows) (time_is (length rows), tt)))
+pub wave_again : (first : ℕ) (nets : List (List ℕ)) (rows : List (List Bool)) → text_lines (wave_text_from first nets rows) ≡ wave_lines_from first nets rows
+wave_again first nets rows =
+    let clocks = lines_of_clocks first None rows in
+    let end = time_line (first + length rows) ∷ [] in
+    lines_again (wave_lines_from first nets rows)
+    (all_append IsWhole (lines_of_head nets) (clocks ++ end) (head_is nets) (all_append IsWhole clocks end (clocks_are first None rows) (time_is (first + length rows), tt)))

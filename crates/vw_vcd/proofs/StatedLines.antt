@@ -1,12 +1,12 @@
 -- What the lines of a wave say, kind by kind.
-use Rattle.std.proofs.Common.{◌≡◌, ◌<◌, ◌≤◌, ◌+◌, ◌++◌, ◌^◌, ◌==◌, ◌∙◌, ℕ, Bool, true, false, List, [], ◌∷◌, length, map, if◌then◌else◌, ap, ap₂, refl, arith}
+use Rattle.std.proofs.Common.{◌≡◌, ◌<◌, ◌≤◌, ◌+◌, ◌++◌, ◌^◌, ◌==◌, ◌∙◌, ℕ, Bool, true, false, List, [], ◌∷◌, Option, Some, None, length, map, ap, ap₂, refl, arith}
 use Rattle.std.specs.Prelude.{codes}
 use Rattle.std.proofs.lemmas.List.{map-append}
 use Rattle.std.proofs.lemmas.List.Splits.{slice_split_at}
 use Rattle.vw_text.proofs.Decimals.{number_of-decimal}
 use Rattle.vw_vcd.specs.Identifiers.{identifier}
 use Rattle.vw_vcd.specs.Changes.{of_each, of_changed, under}
-use Rattle.vw_vcd.specs.Lines.{signal_name, var_line, var_lines, lines_of_head, time_line, value_line, lines_of_clock, lines_of_clocks, wave_lines}
+use Rattle.vw_vcd.specs.Lines.{signal_name, var_line, var_lines, lines_of_head, time_line, value_line, lines_of_clock, lines_of_clocks, wave_lines_from}
 use Rattle.vw_vcd.specs.Statements.{Statement, declares_id, names_time, gives_value, begins_block, ends_block, says_nothing, stated, stated_time, stated_var}
 use Rattle.vw_vcd.proofs.Digits.{identifier_without}
 
@@ -26,18 +26,18 @@ abbrev pub head_stated : List (List ℕ) → List Statement
 head_stated nets = says_nothing ∷ says_nothing ∷ (vars_stated 0 nets ++ says_nothing ∷ says_nothing ∷ [])
 
 -- a clock
-abbrev pub clock_stated : ℕ → List Bool → List Bool → List Statement
-clock_stated clock before bits =
-    if clock == 0 then names_time clock ∷ begins_block ∷ (of_each value_stated 0 bits ++ ends_block ∷ []) else under (names_time clock) (of_changed value_stated 0 before bits)
+abbrev pub clock_stated : ℕ → Option (List Bool) → List Bool → List Statement
+clock_stated clock None bits = names_time clock ∷ begins_block ∷ (of_each value_stated 0 bits ++ ends_block ∷ [])
+clock_stated clock (Some before) bits = under (names_time clock) (of_changed value_stated 0 before bits)
 
 -- clocks
-abbrev pub clocks_stated : ℕ → List Bool → List (List Bool) → List Statement
+abbrev pub clocks_stated : ℕ → Option (List Bool) → List (List Bool) → List Statement
 clocks_stated clock before [] = []
-clocks_stated clock before (bits ∷ rows) = clock_stated clock before bits ++ clocks_stated (clock + 1) bits rows
+clocks_stated clock before (bits ∷ rows) = clock_stated clock before bits ++ clocks_stated (clock + 1) (Some bits) rows
 
 -- the whole
-abbrev pub wave_stated : List (List ℕ) → List (List Bool) → List Statement
-wave_stated nets rows = head_stated nets ++ (clocks_stated 0 [] rows ++ names_time (length rows) ∷ [])
+abbrev pub wave_stated : ℕ → List (List ℕ) → List (List Bool) → List Statement
+wave_stated first nets rows = head_stated nets ++ (clocks_stated first None rows ++ names_time (first + length rows) ∷ [])
 
 -- ---- line by line
 
@@ -86,31 +86,27 @@ under_says line (other ∷ lines) = refl
 -- ---- clock by clock
 
 -- the lines of a clock
-clock_says : (clock : ℕ) (before bits : List Bool) → clock < 2 ^ 64 → map stated (lines_of_clock clock before bits) ≡ clock_stated clock before bits
-clock_says clock before bits small = by (clock == 0) where
-  by : (first : Bool)
-      → map stated (if first then time_line clock ∷ codes "$dumpvars" ∷ (of_each value_line 0 bits ++ codes "$end" ∷ []) else under (time_line clock) (of_changed value_line 0 before bits))
-      ≡ (if first then names_time clock ∷ begins_block ∷ (of_each value_stated 0 bits ++ ends_block ∷ []) else under (names_time clock) (of_changed value_stated 0 before bits))
-  by true =
-      ap₂ (λ (time : Statement) (values : List Statement). time ∷ begins_block ∷ values) (time_says clock small)
-      (map-append stated (of_each value_line 0 bits) (codes "$end" ∷ []) ∙ ap (λ (values : List Statement). values ++ ends_block ∷ []) (each_says 0 bits))
-  by false =
-      under_says (time_line clock) (of_changed value_line 0 before bits)
-      ∙ ap₂ (λ (time : Statement) (values : List Statement). under time values) (time_says clock small) (changed_says 0 before bits)
+clock_says : (clock : ℕ) (before : Option (List Bool)) (bits : List Bool) → clock < 2 ^ 64 → map stated (lines_of_clock clock before bits) ≡ clock_stated clock before bits
+clock_says clock None bits small =
+    ap₂ (λ (time : Statement) (values : List Statement). time ∷ begins_block ∷ values) (time_says clock small)
+    (map-append stated (of_each value_line 0 bits) (codes "$end" ∷ []) ∙ ap (λ (values : List Statement). values ++ ends_block ∷ []) (each_says 0 bits))
+clock_says clock (Some before) bits small =
+    under_says (time_line clock) (of_changed value_line 0 before bits)
+    ∙ ap₂ (λ (time : Statement) (values : List Statement). under time values) (time_says clock small) (changed_says 0 before bits)
 
 -- the lines of clocks
-clocks_say : (clock : ℕ) (before : List Bool) (rows : List (List Bool)) → clock + length rows ≤ 2 ^ 32 → map stated (lines_of_clocks clock before rows) ≡ clocks_stated clock before rows
+clocks_say : (clock : ℕ) (before : Option (List Bool)) (rows : List (List Bool)) → clock + length rows ≤ 2 ^ 32 → map stated (lines_of_clocks clock before rows) ≡ clocks_stated clock before rows
 clocks_say clock before [] few = refl
 clocks_say clock before (bits ∷ rows) few =
-    map-append stated (lines_of_clock clock before bits) (lines_of_clocks (clock + 1) bits rows)
-    ∙ ap₂ (λ (here rest : List Statement). here ++ rest) (clock_says clock before bits (omega arith)) (clocks_say (clock + 1) bits rows (omega arith))
+    map-append stated (lines_of_clock clock before bits) (lines_of_clocks (clock + 1) (Some bits) rows)
+    ∙ ap₂ (λ (here rest : List Statement). here ++ rest) (clock_says clock before bits (omega arith)) (clocks_say (clock + 1) (Some bits) rows (omega arith))
 
 -- the whole
-pub wave_says : (nets : List (List ℕ)) (rows : List (List Bool)) → length rows ≤ 2 ^ 32 → map stated (wave_lines nets rows) ≡ wave_stated nets rows
-wave_says nets rows few =
-    let clocks = lines_of_clocks 0 [] rows in
-    let end = time_line (length rows) ∷ [] in
+pub wave_says : (first : ℕ) (nets : List (List ℕ)) (rows : List (List Bool)) → first + length rows ≤ 2 ^ 32 → map stated (wave_lines_from first nets rows) ≡ wave_stated first nets rows
+wave_says first nets rows few =
+    let clocks = lines_of_clocks first None rows in
+    let end = time_line (first + length rows) ∷ [] in
     map-append stated (lines_of_head nets) (clocks ++ end)
     ∙ ap₂ (λ (head rest : List Statement). head ++ rest) (head_says nets)
     (map-append stated clocks end
-    ∙ ap₂ (λ (values : List Statement) (time : Statement). values ++ time ∷ []) (clocks_say 0 [] rows (omega arith)) (time_says (length rows) (omega arith)))
+    ∙ ap₂ (λ (values : List Statement) (time : Statement). values ++ time ∷ []) (clocks_say first None rows few) (time_says (first + length rows) (omega arith)))

@@ -1,5 +1,5 @@
 -- The parts of a wave: its clocks in two parts, and the pieces that its head is written of.
-use Rattle.std.proofs.Common.{◌≡◌, ◌<◌, ◌+◌, ◌++◌, ◌∙◌, ℕ, suc, Bool, List, [], ◌∷◌, length, drop, get_or, ap, refl, sym, append_assoc, arith}
+use Rattle.std.proofs.Common.{◌≡◌, ◌<◌, ◌+◌, ◌++◌, ◌∙◌, ℕ, suc, Bool, List, [], ◌∷◌, Option, Some, length, drop, get_or, ap, sym, append_assoc, arith}
 use Rattle.std.specs.Prelude.{codes}
 use Rattle.std.proofs.lemmas.List.{drop_more}
 use Rattle.vw_text.specs.Physical.{lines_text}
@@ -11,21 +11,16 @@ use Rattle.vw_vcd.specs.Lines.{lines_of_clock, lines_of_clocks, var_line, var_li
 -- ---- clocks
 
 -- some clocks, and then others behind them
-pub clocks_append : (clock : ℕ) (before : List Bool) (rows more : List (List Bool))
+pub clocks_append : (clock : ℕ) (before : Option (List Bool)) (rows more : List (List Bool))
     → lines_of_clocks clock before (rows ++ more) ≡ lines_of_clocks clock before rows ++ lines_of_clocks (clock + length rows) (last_row before rows) more
 clocks_append clock before [] more = let none : clock ≡ clock + 0 = omega arith in ap (λ (first : ℕ). lines_of_clocks first before more) none
 clocks_append clock before (bits ∷ rows) more =
     let here = lines_of_clock clock before bits in
-    let rest = lines_of_clocks (clock + 1) bits rows in
+    let rest = lines_of_clocks (clock + 1) (Some bits) rows in
     let next : clock + 1 + length rows ≡ clock + suc (length rows) = omega arith in
-    ap (λ (lines : List (List ℕ)). here ++ lines) (clocks_append (clock + 1) bits rows more)
-    ∙ ap (λ (first : ℕ). here ++ (rest ++ lines_of_clocks first (last_row bits rows) more)) next
-    ∙ sym (append_assoc here rest (lines_of_clocks (clock + suc (length rows)) (last_row bits rows) more))
-
--- what stood before the first clock doesn't matter
-pub clocks_begin : (before : List Bool) (rows : List (List Bool)) → lines_of_clocks 0 before rows ≡ lines_of_clocks 0 [] rows
-clocks_begin before [] = refl
-clocks_begin before (bits ∷ rows) = refl
+    ap (λ (lines : List (List ℕ)). here ++ lines) (clocks_append (clock + 1) (Some bits) rows more)
+    ∙ ap (λ (first : ℕ). here ++ (rest ++ lines_of_clocks first (last_row (Some bits) rows) more)) next
+    ∙ sym (append_assoc here rest (lines_of_clocks (clock + suc (length rows)) (last_row (Some bits) rows) more))
 
 -- ---- the head
 

@@ -1,5 +1,5 @@
 -- Which signals differ from one clock to the next.
-use Rattle.std.specs.Prelude.{ℕ, ◌+◌, Bool, true, false, not, List, [], ◌∷◌, if◌then◌else◌}
+use Rattle.std.specs.Prelude.{ℕ, ◌+◌, Bool, true, false, not, List, [], ◌∷◌, Option, Some, if◌then◌else◌}
 
 -- whether two values are different ones
 abbrev pub differs : Bool → Bool → Bool
@@ -27,7 +27,7 @@ has_any (x ∷ xs) = true
 abbrev pub under : {X : Type 0} → X → List X → List X
 under first xs = if has_any xs then first ∷ xs else []
 
--- the last of some rows; this one where there is none
-abbrev pub last_row : List Bool → List (List Bool) → List Bool
+-- the last of some rows; what was before them where there is none
+abbrev pub last_row : Option (List Bool) → List (List Bool) → Option (List Bool)
 last_row before [] = before
-last_row before (bits ∷ rows) = last_row bits rows
+last_row before (bits ∷ rows) = last_row (Some bits) rows

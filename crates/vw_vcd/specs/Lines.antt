@@ -1,6 +1,6 @@
 -- The text of a wave: a value change dump with the values 0 and 1 alone. Source: IEEE 1364 for the keywords and the forms of
 -- the lines; which of them are written, the names and the unit are this project's choice.
-use Rattle.std.specs.Prelude.{ℕ, ◌+◌, Bool, ◌||◌, List, [], ◌∷◌, ◌++◌, map, length, codes, if◌then◌else◌, ◌==◌}
+use Rattle.std.specs.Prelude.{ℕ, ◌+◌, Bool, ◌||◌, List, [], ◌∷◌, ◌++◌, Option, Some, None, map, length, codes, if◌then◌else◌, ◌==◌}
 use Rattle.std.specs.Char.{is_ascii_alphanumeric}
 use Rattle.std.specs.Fmt.{decimal}
 use Rattle.vw_text.specs.Physical.{lines_text}
@@ -41,25 +41,28 @@ time_line clock = 35 ∷ decimal clock
 abbrev pub value_line : ℕ → Bool → List ℕ
 value_line number bit = (if bit then 49 else 48) ∷ identifier number
 
--- the lines of a clock in which the signals have these values, behind a clock with those before: in clock 0 all values, and
--- later the changed ones, and none where nothing has changed
-abbrev pub lines_of_clock : ℕ → List Bool → List Bool → List (List ℕ)
-lines_of_clock clock before bits =
-    if clock == 0
-    then time_line clock ∷ codes "$dumpvars" ∷ (of_each value_line 0 bits ++ codes "$end" ∷ [])
-    else under (time_line clock) (of_changed value_line 0 before bits)
+-- the lines of a clock in which the signals have these values: where the wave has no clock before it, all values; and behind a
+-- clock with those before, the changed ones, and none where nothing has changed
+abbrev pub lines_of_clock : ℕ → Option (List Bool) → List Bool → List (List ℕ)
+lines_of_clock clock None bits = time_line clock ∷ codes "$dumpvars" ∷ (of_each value_line 0 bits ++ codes "$end" ∷ [])
+lines_of_clock clock (Some before) bits = under (time_line clock) (of_changed value_line 0 before bits)
 
 -- the lines of some clocks, of which the first has this number
-abbrev pub lines_of_clocks : ℕ → List Bool → List (List Bool) → List (List ℕ)
+abbrev pub lines_of_clocks : ℕ → Option (List Bool) → List (List Bool) → List (List ℕ)
 lines_of_clocks clock before [] = []
-lines_of_clocks clock before (bits ∷ rows) = lines_of_clock clock before bits ++ lines_of_clocks (clock + 1) bits rows
+lines_of_clocks clock before (bits ∷ rows) = lines_of_clock clock before bits ++ lines_of_clocks (clock + 1) (Some bits) rows
 
 -- ---- the whole
 
--- the lines of signals with these printed nets, which have the values of these rows, one row a clock
-abbrev pub wave_lines : List (List ℕ) → List (List Bool) → List (List ℕ)
-wave_lines nets rows = lines_of_head nets ++ (lines_of_clocks 0 [] rows ++ time_line (length rows) ∷ [])
+-- the lines of signals with these printed nets, which have the values of these rows, one row a clock; the first clock has this
+-- number, and the last line is the number behind the last one
+abbrev pub wave_lines_from : ℕ → List (List ℕ) → List (List Bool) → List (List ℕ)
+wave_lines_from first nets rows = lines_of_head nets ++ (lines_of_clocks first None rows ++ time_line (first + length rows) ∷ [])
 
 -- their text
+abbrev pub wave_text_from : ℕ → List (List ℕ) → List (List Bool) → List ℕ
+wave_text_from first nets rows = lines_text (wave_lines_from first nets rows)
+
+-- the text where the first clock has the number 0
 abbrev pub wave_text : List (List ℕ) → List (List Bool) → List ℕ
-wave_text nets rows = lines_text (wave_lines nets rows)
+wave_text nets rows = wave_text_from 0 nets rows

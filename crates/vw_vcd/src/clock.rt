@@ -1,8 +1,7 @@
 //! The lines of clocks.
-ghost use Rattle.std.specs.Prelude.{◌≡◌, ◌<◌, ◌++◌, ◌∷◌, ◌^◌, [], codes, length, OnOk};
+ghost use Rattle.std.specs.Prelude.{◌≡◌, ◌<◌, ◌++◌, ◌^◌, ◌∷◌, [], length, if◌then◌else◌, None, OnOk, Some};
 ghost use Rattle.vw_text.specs.Physical.{lines_text};
-ghost use Rattle.vw_vcd.specs.Changes.{of_changed, of_each, under};
-ghost use Rattle.vw_vcd.specs.Lines.{lines_of_clock, time_line, value_line};
+ghost use Rattle.vw_vcd.specs.Lines.{lines_of_clock, time_line};
 
 use crate::changes::{has_change, push_changes, push_values};
 use std::alloc::AllocError;
@@ -18,13 +17,13 @@ pub(crate) fn push_time(text: &mut Vec<u8>, clock: u64) -> Result<(), AllocError
     Ok(())
 }
 
-/// Appends the lines of the first clock, with all values.
-fn push_first(text: &mut Vec<u8>, bits: &[bool]) -> Result<(), AllocError>
+/// Appends the lines of the first clock of a wave, with all values.
+fn push_first(text: &mut Vec<u8>, clock: u64, bits: &[bool]) -> Result<(), AllocError>
     requires { length bits.now < 2 ^ 32 }
-    ensures { OnOk result (text.new.items ≡ text.old.items
-        ++ lines_text (time_line 0 ∷ codes "$dumpvars" ∷ (of_each value_line 0 bits.now ++ codes "$end" ∷ []))) }
+    ensures { OnOk result (text.new.items
+        ≡ text.old.items ++ lines_text (lines_of_clock clock None bits.now)) }
 {
-    push_time(text, 0)?;
+    push_time(text, clock)?;
     text.extend_from_slice(b"$dumpvars\n")?;
     push_values(text, bits)?;
     text.extend_from_slice(b"$end\n")?;
@@ -41,7 +40,7 @@ fn push_later(
     requires same { length before.now ≡ length bits.now }
     requires few { length bits.now < 2 ^ 32 }
     ensures { OnOk result (text.new.items
-        ≡ text.old.items ++ lines_text (under (time_line clock) (of_changed value_line 0 before.now bits.now))) }
+        ≡ text.old.items ++ lines_text (lines_of_clock clock (Some before.now) bits.now)) }
 {
     if has_change(before, bits) {
         push_time(text, clock)?;
@@ -50,21 +49,22 @@ fn push_later(
     Ok(())
 }
 
-/// Appends the lines of a clock.
+/// Appends the lines of a clock. Where the wave has begun, a clock with the values before came before it.
 pub(crate) fn push_clock(
     text: &mut Vec<u8>,
     clock: u64,
+    begun: bool,
     before: &[bool],
     bits: &[bool],
 ) -> Result<(), AllocError>
     requires same { length before.now ≡ length bits.now }
     requires few { length bits.now < 2 ^ 32 }
-    ensures { OnOk result (text.new.items
-        ≡ text.old.items ++ lines_text (lines_of_clock clock before.now bits.now)) }
+    ensures { OnOk result (text.new.items ≡ text.old.items
+        ++ lines_text (lines_of_clock clock (if begun then Some before.now else None) bits.now)) }
 {
-    if clock == 0 {
-        push_first(text, bits)
-    } else {
+    if begun {
         push_later(text, clock, before, bits)
+    } else {
+        push_first(text, clock, bits)
     }
 }

@@ -1,18 +1,18 @@
 -- What is left of a wave, before and after some clocks, and of one that has seen none.
-use Rattle.std.proofs.Common.{◌≡◌, ◌+◌, ◌++◌, ◌∙◌, ℕ, suc, Bool, List, [], ◌∷◌, length, ap, ap₂, refl, sym, append_assoc, arith}
+use Rattle.std.proofs.Common.{◌≡◌, ◌+◌, ◌++◌, ◌∙◌, ℕ, suc, Bool, List, [], ◌∷◌, Option, None, length, ap, ap₂, refl, sym, append_assoc, arith}
 use Rattle.std.proofs.lemmas.List.{length-append}
 use Rattle.vw_net.specs.History.{History}
 use Rattle.vw_text.specs.Physical.{lines_text}
 use Rattle.vw_text.proofs.LineTexts.{lines_text-append}
 use Rattle.vw_vcd.specs.Changes.{last_row}
-use Rattle.vw_vcd.specs.Lines.{lines_of_clocks, lines_of_head, time_line, wave_text}
+use Rattle.vw_vcd.specs.Lines.{lines_of_clocks, lines_of_head, time_line, wave_text_from}
 use Rattle.vw_vcd.specs.Progress.{Progress}
-use Rattle.vw_vcd.proofs.WaveParts.{clocks_append, clocks_begin}
+use Rattle.vw_vcd.proofs.WaveParts.{clocks_append}
 use Rattle.vw_trace.specs.Recorded.{clocks_before}
 use Rattle.vw_wave.specs.FlatWave.{joined_rows, signal_rows, wave_left}
 
 -- the signals of some clocks, and then of others
-joined_more : (outputs states others further : List (List Bool)) → length outputs ≡ length states → joined_rows (outputs ++ others) (states ++ further) ≡ joined_rows outputs states ++ joined_rows others further
+pub joined_more : (outputs states others further : List (List Bool)) → length outputs ≡ length states → joined_rows (outputs ++ others) (states ++ further) ≡ joined_rows outputs states ++ joined_rows others further
 joined_more [] [] others further same = refl
 joined_more [] (state ∷ states) others further same = absurd (omega (arith, same))
 joined_more (row ∷ outputs) [] others further same = absurd (omega (arith, same))
@@ -29,34 +29,33 @@ length-joined (row ∷ outputs) (state ∷ states) same =
 
 -- a wave that has seen some clocks more goes on behind their lines
 pub wave_goes_on : (old new : Progress) (outputs states : List (List Bool)) (text : List ℕ) → length outputs ≡ length states
-    → text ≡ lines_text (lines_of_clocks old.clocks old.last (joined_rows outputs states)) → new.clocks ≡ old.clocks + length outputs → new.last ≡ last_row old.last (joined_rows outputs states)
+    → text ≡ lines_text (lines_of_clocks old.clock old.last (joined_rows outputs states)) → new.clock ≡ old.clock + length outputs → new.last ≡ last_row old.last (joined_rows outputs states)
     → (more : History) → wave_left old (clocks_before outputs states more) ≡ text ++ wave_left new more
-wave_goes_on old new outputs states text same is clocks last more =
+wave_goes_on old new outputs states text same is clock last more =
     let rows = joined_rows outputs states in
     let further = signal_rows more in
-    let here = lines_of_clocks old.clocks old.last rows in
-    let rest = lines_of_clocks new.clocks new.last further in
-    let end = λ (clock : ℕ). time_line clock ∷ [] in
-    let behind : lines_of_clocks (old.clocks + length rows) (last_row old.last rows) further ≡ rest =
-    ap₂ (λ (clock : ℕ) (before : List Bool). lines_of_clocks clock before further) (ap (λ (n : ℕ). old.clocks + n) (length-joined outputs states same) ∙ sym clocks) (sym last) in
-    let lines : lines_of_clocks old.clocks old.last (joined_rows (outputs ++ more.outputs) (states ++ more.states)) ≡ here ++ rest =
-    ap (lines_of_clocks old.clocks old.last) (joined_more outputs states more.outputs more.states same) ∙ clocks_append old.clocks old.last rows further
+    let here = lines_of_clocks old.clock old.last rows in
+    let rest = lines_of_clocks new.clock new.last further in
+    let end = λ (time : ℕ). time_line time ∷ [] in
+    let behind : lines_of_clocks (old.clock + length rows) (last_row old.last rows) further ≡ rest =
+    ap₂ (λ (first : ℕ) (before : Option (List Bool)). lines_of_clocks first before further) (ap (λ (n : ℕ). old.clock + n) (length-joined outputs states same) ∙ sym clock) (sym last) in
+    let lines : lines_of_clocks old.clock old.last (joined_rows (outputs ++ more.outputs) (states ++ more.states)) ≡ here ++ rest =
+    ap (lines_of_clocks old.clock old.last) (joined_more outputs states more.outputs more.states same) ∙ clocks_append old.clock old.last rows further
     ∙ ap (λ (list : List (List ℕ)). here ++ list) behind in
     let long = length-append outputs more.outputs in
-    let time : old.clocks + length (outputs ++ more.outputs) ≡ new.clocks + length more.outputs = omega (arith, long, clocks) in
-    ap₂ (λ (list : List (List ℕ)) (clock : ℕ). lines_text (list ++ end clock)) lines time
-    ∙ ap lines_text (append_assoc here rest (end (new.clocks + length more.outputs)))
-    ∙ lines_text-append here (rest ++ end (new.clocks + length more.outputs))
+    let time : old.clock + length (outputs ++ more.outputs) ≡ new.clock + length more.outputs = omega (arith, long, clock) in
+    ap₂ (λ (list : List (List ℕ)) (clocks : ℕ). lines_text (list ++ end clocks)) lines time
+    ∙ ap lines_text (append_assoc here rest (end (new.clock + length more.outputs)))
+    ∙ lines_text-append here (rest ++ end (new.clock + length more.outputs))
     ∙ ap (λ (front : List ℕ). front ++ wave_left new more) (sym is)
 
--- behind a head, all that is left of a wave that has seen no clock is the whole wave
-pub fresh_wave : (names : List (List ℕ)) (seen : Progress) (history : History) → seen.clocks ≡ 0 → length history.outputs ≡ length history.states
-    → lines_text (lines_of_head names) ++ wave_left seen history ≡ wave_text names (signal_rows history)
-fresh_wave names seen history none same =
+-- behind a head, all that is left of a wave that has seen no clock is the whole wave from its next clock on
+pub fresh_wave : (first : ℕ) (names : List (List ℕ)) (seen : Progress) (history : History) → seen.clock ≡ first → seen.last ≡ None → length history.outputs ≡ length history.states
+    → lines_text (lines_of_head names) ++ wave_left seen history ≡ wave_text_from first names (signal_rows history)
+fresh_wave first names seen history clock none same =
     let rows = signal_rows history in
     let count = length history.outputs in
-    let time : seen.clocks + count ≡ length rows = omega (arith, none, length-joined history.outputs history.states same) in
-    let clocks : lines_of_clocks seen.clocks seen.last rows ≡ lines_of_clocks 0 [] rows =
-    ap (λ (clock : ℕ). lines_of_clocks clock seen.last rows) none ∙ clocks_begin seen.last rows in
-    ap₂ (λ (list : List (List ℕ)) (clock : ℕ). lines_text (lines_of_head names) ++ lines_text (list ++ time_line clock ∷ [])) clocks time
-    ∙ sym (lines_text-append (lines_of_head names) (lines_of_clocks 0 [] rows ++ time_line (length rows) ∷ []))
+    let time : seen.clock + count ≡ first + length rows = omega (arith, clock, length-joined history.outputs history.states same) in
+    let clocks = ap₂ (λ (from : ℕ) (before : Option (List Bool)). lines_of_clocks from before rows) clock none in
+    ap₂ (λ (list : List (List ℕ)) (last : ℕ). lines_text (lines_of_head names) ++ lines_text (list ++ time_line last ∷ [])) clocks time
+    ∙ sym (lines_text-append (lines_of_head names) (lines_of_clocks first None rows ++ time_line (first + length rows) ∷ []))

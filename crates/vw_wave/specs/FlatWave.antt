@@ -4,7 +4,7 @@ use Rattle.vw_net.specs.declared.flat.Flat.{Flat}
 use Rattle.vw_net.specs.Cells.{start_values}
 use Rattle.vw_net.specs.History.{History, flat_history}
 use Rattle.vw_text.specs.Physical.{lines_text}
-use Rattle.vw_vcd.specs.Lines.{lines_of_clocks, time_line, wave_text}
+use Rattle.vw_vcd.specs.Lines.{lines_of_clocks, time_line, wave_text_from}
 use Rattle.vw_vcd.specs.Progress.{Progress}
 
 -- the values of the signals in each clock: its outputs, and behind them the latch values before its step
@@ -17,15 +17,15 @@ joined_rows (row ∷ outputs) (state ∷ states) = (row ++ state) ∷ joined_row
 abbrev pub signal_rows : History → List (List Bool)
 signal_rows history = joined_rows history.outputs history.states
 
--- the wave over rows, from a state on, where the signals have these names
-abbrev pub wave_from : List (List ℕ) → List Bool → Flat → List (List Bool) → List ℕ
-wave_from names state flat rows = wave_text names (signal_rows (flat_history flat state rows))
+-- the wave over rows, from a state on, where the signals have these names; the first clock has the number `first`
+abbrev pub wave_from : List (List ℕ) → ℕ → List Bool → Flat → List (List Bool) → List ℕ
+wave_from names first state flat rows = wave_text_from first names (signal_rows (flat_history flat state rows))
 
--- over rows, from the start values, where free latches start at `unknown`
+-- over rows, from the start values, where free latches start at `unknown`; the first clock has the number 0
 abbrev pub flat_wave : List (List ℕ) → Bool → Flat → List (List Bool) → List ℕ
-flat_wave names unknown flat rows = wave_from names (start_values unknown flat.cells) flat rows
+flat_wave names unknown flat rows = wave_from names 0 (start_values unknown flat.cells) flat rows
 
 -- what is left of a wave that has seen some clocks, if this is what its netlist still does
 abbrev pub wave_left : Progress → History → List ℕ
 wave_left seen history =
-    lines_text (lines_of_clocks seen.clocks seen.last (signal_rows history) ++ time_line (seen.clocks + length history.outputs) ∷ [])
+    lines_text (lines_of_clocks seen.clock seen.last (signal_rows history) ++ time_line (seen.clock + length history.outputs) ∷ [])

@@ -1,11 +1,11 @@
 //! The lines of a wave.
-ghost use Rattle.std.specs.Prelude.{◌≡◌, ◌<◌, ◌+◌, ◌++◌, ◌^◌, ℕ, List, length, IfOk, OnOk};
+ghost use Rattle.std.specs.Prelude.{◌≡◌, ◌<◌, ◌+◌, ◌++◌, ◌^◌, ℕ, List, length, IfOk, OnOk, Some};
 ghost use Rattle.std.specs.List.{All};
 ghost use Rattle.vw_net.specs.Cells.{latch_count};
 ghost use Rattle.vw_net.specs.History.{History};
 ghost use Rattle.vw_text.specs.Physical.{lines_text};
 ghost use Rattle.vw_vcd.specs.Changes.{last_row};
-ghost use Rattle.vw_vcd.specs.Lines.{lines_of_clock, lines_of_clocks, lines_of_head, wave_text};
+ghost use Rattle.vw_vcd.specs.Lines.{lines_of_clock, lines_of_clocks, lines_of_head, wave_text_from};
 ghost use Rattle.vw_wave.specs.FlatWave.{joined_rows, signal_rows, wave_left};
 
 use crate::row::put_signals;
@@ -25,7 +25,7 @@ pub struct WaveRecorder {
     /// The values of all signals in the clock at hand.
     row: Bits,
     ghost few: { outputs + latches < 2 ^ 32 },
-    ghost signals: { length wave.last ≡ outputs + latches },
+    ghost signals: { wave.signals ≡ outputs + latches },
     ghost wide: { length row ≡ outputs + latches },
 }
 
@@ -41,21 +41,21 @@ impl Drop for WaveRecorder {
 }
 
 impl WaveRecorder {
-    /// What writes down the clocks of a netlist from the first on, before which the latches have these values. It takes
-    /// memory for two bits of each signal.
-    pub fn make(alloc: Global, flat: &Flat, state: &Bits) -> Result<Self, AllocError>
+    /// What writes down the clocks of a netlist from the clock `first` on, counted from 0. These are the latch values
+    /// before it. It takes memory for two bits of each signal.
+    pub fn make(alloc: Global, flat: &Flat, first: u64, state: &Bits) -> Result<Self, AllocError>
         requires { length state.now ≡ latch_count flat.now.cells }
-        ensures clocks { IfOk result (λ recorder. recorder.wave.clocks ≡ 0) }
+        ensures clock { IfOk result (λ recorder. recorder.wave.clock ≡ first) }
         ensures outputs { IfOk result (λ recorder. recorder.outputs ≡ length flat.now.outputs) }
         ensures latches { IfOk result (λ recorder. recorder.latches ≡ latch_count flat.now.cells) }
         ensures fresh { IfOk result (λ recorder. (names : List (List ℕ)) (history : History)
             → length history.outputs ≡ length history.states
             → lines_text (lines_of_head names) ++ wave_left recorder.wave history
-            ≡ wave_text names (signal_rows history)) }
+            ≡ wave_text_from first names (signal_rows history)) }
     {
         let outputs = flat.outputs().len();
         let latches = state.len();
-        let wave = Wave::make(alloc, (outputs + latches) as u32)?;
+        let wave = Wave::make(alloc, first, (outputs + latches) as u32)?;
         let row = Bits::of(vec![in alloc; false; outputs + latches]?);
         Ok(WaveRecorder {
             wave,
@@ -74,11 +74,13 @@ impl WaveRecorder {
     ) -> Result<(), AllocError>
         requires outputs { length outputs.now ≡ self.old.outputs }
         requires latches { length state.now ≡ self.old.latches }
-        requires few { self.old.wave.clocks < 2 ^ 32 }
+        requires few { self.old.wave.clock < 2 ^ 32 }
         ensures text { OnOk result (text.new.items ≡ text.old.items
-            ++ lines_text (lines_of_clock self.old.wave.clocks self.old.wave.last (outputs.now ++ state.now))) }
-        ensures seen { OnOk result (self.new.wave
-            ≡ record { clocks = self.old.wave.clocks + 1; last = outputs.now ++ state.now }) }
+            ++ lines_text (lines_of_clock self.old.wave.clock self.old.wave.last (outputs.now ++ state.now))) }
+        ensures seen { OnOk result (self.new.wave ≡ record self.old.wave {
+          clock = self.old.wave.clock + 1;
+          last = Some (outputs.now ++ state.now);
+        }) }
         ensures outputs { self.new.outputs ≡ self.old.outputs }
         ensures latches { self.new.latches ≡ self.old.latches }
     {
@@ -96,12 +98,12 @@ impl WaveRecorder {
         requires count { length outputs.now ≡ length states.now }
         requires outputs { All (λ bits. length bits ≡ self.old.outputs) outputs.now }
         requires states { All (λ bits. length bits ≡ self.old.latches) states.now }
-        requires few { self.old.wave.clocks + length outputs.now < 2 ^ 32 }
+        requires few { self.old.wave.clock + length outputs.now < 2 ^ 32 }
         ensures text { OnOk result (text.new.items ≡ text.old.items
-            ++ lines_text (lines_of_clocks self.old.wave.clocks self.old.wave.last
+            ++ lines_text (lines_of_clocks self.old.wave.clock self.old.wave.last
             (joined_rows outputs.now states.now))) }
-        ensures clocks { OnOk result (self.new.wave.clocks
-            ≡ self.old.wave.clocks + length outputs.now) }
+        ensures clock { OnOk result (self.new.wave.clock
+            ≡ self.old.wave.clock + length outputs.now) }
         ensures last { OnOk result (self.new.wave.last
             ≡ last_row self.old.wave.last (joined_rows outputs.now states.now)) }
         ensures outputs { self.new.outputs ≡ self.old.outputs }
@@ -122,7 +124,7 @@ impl Recorder for WaveRecorder {
       left = wave_left recorder.wave;
       outputs = recorder.outputs;
       latches = recorder.latches;
-      clock = recorder.wave.clocks;
+      clock = recorder.wave.clock;
       waits = false;
     } };
 

@@ -31,12 +31,12 @@ fn write_head<O: Sink>(
     put_text(text, out)
 }
 
-/// Has an engine that hasn't begun work out the clocks of all rows that a stimulus still gives, and appends the wave of its
-/// netlist. Its signals are the outputs and behind them the latches, in the order of the cells; `names` are their printed nets.
-/// The stimulus is read again in batches of 256 clocks, and memory is taken for one batch at a time: a clock takes none but
-/// for its lines. Where a read or a write fails or memory runs out, a front of the wave was appended. Where nothing is told of
-/// the text of the stimulus, it may have changed since it was checked: then it may be found at fault, or the wave is that of
-/// other rows with the same width, as many as were counted.
+/// Has an engine work out the clocks of all rows that a stimulus still gives, from where it stands, and appends the wave of
+/// its netlist. The clocks are numbered from the engine's next one on. The signals are the outputs and behind them the
+/// latches, in the order of the cells; `names` are their printed nets. The stimulus is read again in batches of 256 clocks,
+/// and memory is taken for one batch at a time: a clock takes none but for its lines. Where a read or a write fails or memory
+/// runs out, a front of the wave was appended. Where nothing is told of the text of the stimulus, it may have changed since it
+/// was checked: then it may be found at fault, or the wave is that of other rows with the same width, as many as were counted.
 pub fn write_wave_by<E: Engine, S: Shelf, O: Sink>(
     alloc: Global,
     engine: &mut E,
@@ -45,15 +45,14 @@ pub fn write_wave_by<E: Engine, S: Shelf, O: Sink>(
     out: &mut O,
 ) -> Result<(), RunFault>
     requires feeds { Feeds (E.seen engine.old) rows.old.stimulus.now }
-    requires unstarted { (E.seen engine.old).clock ≡ 0 }
     requires names { length names.now ≡ length (E.seen engine.old).netlist.outputs
         + latch_count (E.seen engine.old).netlist.cells }
     ensures { let seen = E.seen engine.old in
-        Streams (wave_from names.now seen.state seen.netlist)
+        Streams (wave_from names.now seen.clock seen.state seen.netlist)
         (λ these. OnOk result (E.seen engine.new ≡ engine_after seen these))
         rows.old rows.new (O.seen out.old) (O.seen out.new) result }
 {
-    let mut recorder = WaveRecorder::make(alloc, engine.flat(), engine.state())?;
+    let mut recorder = WaveRecorder::make(alloc, engine.flat(), engine.clock(), engine.state())?;
     write_head(alloc, engine.flat(), names, out)?;
     record_run(alloc, engine, rows, &mut recorder, out)
 }

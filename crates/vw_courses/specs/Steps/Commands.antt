@@ -6,6 +6,7 @@ use Rattle.vw_courses.specs.declared.command.Command.TheVariants.{Plain, OnRunti
 use Rattle.vw_courses.specs.declared.command.GradeSettings.{GradeSettings}
 use Rattle.vw_courses.specs.declared.command.PlainCommand.{PlainCommand}
 use Rattle.vw_courses.specs.declared.command.PlainCommand.TheVariants as plain
+use Rattle.vw_courses.specs.declared.command.ReplayWords.{ReplayWords}
 use Rattle.vw_courses.specs.declared.command.RunWords.{RunWords}
 use Rattle.vw_courses.specs.declared.command.RuntimeCommand.{RuntimeCommand}
 use Rattle.vw_courses.specs.declared.command.RuntimeCommand.TheVariants as runtime
@@ -28,6 +29,8 @@ run_view its workers =
 abbrev pub plain_view : PlainCommand → Spelled
 plain_view (plain.Sim design stimulus unknown probes) = words.sim design.now stimulus.now unknown (take MOST_PROBES probes)
 plain_view (plain.Wave design stimulus unknown probes) = words.wave design.now stimulus.now unknown (take MOST_PROBES probes)
+plain_view (plain.Replay its) = words.replay its.design.now its.stimulus.now its.state.now (take MOST_PROBES its.probes)
+plain_view (plain.ReplayWave its) = words.replay_wave its.design.now its.stimulus.now its.state.now (take MOST_PROBES its.probes)
 plain_view (plain.Nets design probes) = words.nets design.now (take MOST_PROBES probes)
 plain_view (plain.Check design board plan probes) = words.check design.now board.now plan.now (take MOST_PROBES probes)
 plain_view (plain.Plan design board chips probes) = words.plan design.now board.now (option_copied chips) (take MOST_PROBES probes)

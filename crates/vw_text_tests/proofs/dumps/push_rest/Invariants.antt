@@ -3,4 +3,4 @@ use Rattle.std.proofs.Common.{◌≡◌, length}
 use Rattle.vw_text_tests.proofs.dumps.push_rest.Given as goal
 
 abbrev pub invariant-loop : goal.invariant-loop
-invariant-loop l = record { seen : l.wave.clocks ≡ l.counter; signals : length l.row ≡ length l.wave.last }
+invariant-loop l = record { seen : l.wave.clock ≡ l.counter; signals : length l.row ≡ l.wave.signals }

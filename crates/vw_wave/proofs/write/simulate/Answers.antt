@@ -1,4 +1,4 @@
-use Rattle.std.proofs.Common.{◌≡◌, ◌∙◌, List, Bool, length, ap, ap₂}
+use Rattle.std.proofs.Common.{◌≡◌, ◌∙◌, ℕ, List, Bool, length, ap, ap₂}
 use Rattle.std.proofs.lemmas.Result.{err_from_is_err_and}
 use Rattle.vw_net.specs.declared.flat.Flat.{Flat}
 use Rattle.vw_net.specs.declared.ordered.Ordered.{Ordered}
@@ -32,4 +32,7 @@ pub returns-clause-streams : goal.returns-clause-streams
 returns-clause-streams g c =
     let its = c.in_ok-simulation.ensures in
     let state : c.in_ok-simulation.simulation.state ≡ start_values c.args.unknown c.args.ordered.now.flat.cells = its.starts ∙ starts g (goal.at.returns-clause-streams g c).In_ok-start in
-    streams_as (λ these. ap₂ (λ (bits : List Bool) (one : Ordered). wave_from c.args.names.now bits one.flat these) state its.simulator) (λ these done. tt) c.write_wave_by.ensures
+    let names = c.args.names.now in
+    streams_as (λ these.
+    ap (λ (first : ℕ). wave_from names first c.in_ok-simulation.simulation.state c.in_ok-simulation.simulation.simulator.flat these) its.unstarted
+    ∙ ap₂ (λ (bits : List Bool) (one : Ordered). wave_from names 0 bits one.flat these) state its.simulator) (λ these done. tt) c.write_wave_by.ensures

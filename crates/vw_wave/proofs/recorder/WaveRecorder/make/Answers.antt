@@ -17,4 +17,4 @@ overflow_cast-outputs c = omega (arith, few c.args.flat.now c.outputs-outputs.re
 
 -- behind a head it has the whole wave left
 pub returns-clause-fresh : goal.returns-clause-fresh
-returns-clause-fresh c names history same = fresh_wave names c.in_ok-wave.wave history c.in_ok-wave.ensures.clocks same
+returns-clause-fresh c names history same = fresh_wave c.args.first names c.in_ok-wave.wave history c.in_ok-wave.ensures.clock c.in_ok-wave.ensures.unbegun same

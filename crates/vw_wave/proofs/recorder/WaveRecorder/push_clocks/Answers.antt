@@ -1,5 +1,5 @@
 -- The lines of one clock more.
-use Rattle.std.proofs.Common.{◌≡◌, ◌<◌, ◌+◌, ◌++◌, ◌∷◌, ◌∙◌, ℕ, Bool, List, length, drop, ap, ap₂, sym, append_assoc, arith}
+use Rattle.std.proofs.Common.{◌≡◌, ◌<◌, ◌+◌, ◌++◌, ◌∷◌, ◌∙◌, ℕ, Bool, List, Some, length, drop, ap, ap₂, sym, append_assoc, arith}
 use Rattle.std.proofs.lemmas.List.{drop_more}
 use Rattle.std.proofs.lemmas.Option.{get_or_from_slice_get}
 use Rattle.vw_text.specs.Physical.{lines_text}
@@ -27,16 +27,16 @@ loop-clock-preserved c =
     let joined : joined_rows (drop i outputs) (drop i states) ≡ (row ++ state) ∷ more =
     ap₂ (λ (xs ys : List (List Bool)). joined_rows xs ys) (drop_more outputs i row within) (drop_more states i state inside)
     ∙ ap₂ (λ (xs ys : List Bool). (xs ++ ys) ∷ more) (get_or_from_slice_get outputs i row row c.row.ensures) (get_or_from_slice_get states i state state c.row-in-loop-clock.ensures) in
-    let front = lines_of_clock wave.clocks wave.last (row ++ state) in
-    let rest = lines_of_clocks (wave.clocks + 1) (row ++ state) more in
+    let front = lines_of_clock wave.clock wave.last (row ++ state) in
+    let rest = lines_of_clocks (wave.clock + 1) (Some (row ++ state)) more in
     record {
       text =
-          ap₂ (λ (text : List ℕ) (seen : Progress). text ++ lines_text (lines_of_clocks seen.clocks seen.last more)) pushed.text pushed.seen
+          ap₂ (λ (text : List ℕ) (seen : Progress). text ++ lines_text (lines_of_clocks seen.clock seen.last more)) pushed.text pushed.seen
           ∙ append_assoc before (lines_text front) (lines_text rest)
           ∙ ap (λ (text : List ℕ). before ++ text) (sym (lines_text-append front rest))
-          ∙ ap (λ (rows : List (List Bool)). before ++ lines_text (lines_of_clocks wave.clocks wave.last rows)) (sym joined)
+          ∙ ap (λ (rows : List (List Bool)). before ++ lines_text (lines_of_clocks wave.clock wave.last rows)) (sym joined)
           ∙ kept.text;
-      clocks = omega (arith, ap (λ (seen : Progress). seen.clocks) pushed.seen, kept.clocks);
+      clock = omega (arith, ap (λ (seen : Progress). seen.clock) pushed.seen, kept.clock);
       last = ap (λ (seen : Progress). last_row seen.last more) pushed.seen ∙ ap (λ (rows : List (List Bool)). last_row wave.last rows) (sym joined) ∙ kept.last;
       outputs = pushed.outputs ∙ kept.outputs;
       latches = pushed.latches ∙ kept.latches;

@@ -8,9 +8,9 @@ use Rattle.vw_wave.proofs.recorder.WaveRecorder.push_clocks.Given as goal
 
 abbrev pub invariant-loop-clock : goal.invariant-loop-clock
 invariant-loop-clock l = record {
-  text : l.text.items ++ lines_text (lines_of_clocks l.self.wave.clocks l.self.wave.last (joined_rows (drop l.clock l.outputs) (drop l.clock l.states)))
-      ≡ l.fn.text.items ++ lines_text (lines_of_clocks l.fn.self.wave.clocks l.fn.self.wave.last (joined_rows l.outputs l.states));
-  clocks : l.self.wave.clocks ≡ l.fn.self.wave.clocks + l.clock;
+  text : l.text.items ++ lines_text (lines_of_clocks l.self.wave.clock l.self.wave.last (joined_rows (drop l.clock l.outputs) (drop l.clock l.states)))
+      ≡ l.fn.text.items ++ lines_text (lines_of_clocks l.fn.self.wave.clock l.fn.self.wave.last (joined_rows l.outputs l.states));
+  clock : l.self.wave.clock ≡ l.fn.self.wave.clock + l.clock;
   last : last_row l.self.wave.last (joined_rows (drop l.clock l.outputs) (drop l.clock l.states)) ≡ last_row l.fn.self.wave.last (joined_rows l.outputs l.states);
   outputs : l.self.outputs ≡ l.fn.self.outputs;
   latches : l.self.latches ≡ l.fn.self.latches;

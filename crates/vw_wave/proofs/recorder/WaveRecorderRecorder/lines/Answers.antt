@@ -12,6 +12,6 @@ returns-clause-text c = λ more.
     let old = c.args.self.now.wave in
     let new = c.push_clocks.new.self.wave in
     let pushed = c.in_ok-push_clocks.ensures in
-    let lines = λ (outputs states : List (List Bool)). lines_text (lines_of_clocks old.clocks old.last (joined_rows outputs states)) in
+    let lines = λ (outputs states : List (List Bool)). lines_text (lines_of_clocks old.clock old.last (joined_rows outputs states)) in
     let text = pushed.text ∙ ap (λ (front : List ℕ). front ++ lines batch.outputs batch.states) c.new-text.ensures.items in
-    wave_goes_on old new batch.outputs batch.states c.push_clocks.new.text.items c.requires.count text pushed.clocks pushed.last more
+    wave_goes_on old new batch.outputs batch.states c.push_clocks.new.text.items c.requires.count text pushed.clock pushed.last more
