@@ -20,16 +20,16 @@ _vwires() {
         return
     fi
     case ${COMP_WORDS[1]} in
-        sim) settings='unknown= replay= probe=' ;;
-        wave) settings='unknown= replay= probe=' ;;
+        sim) settings='unknown= replay= until= probe=' ;;
+        wave) settings='unknown= replay= until= probe=' ;;
         grade) settings='workers= unknown= part=' ;;
         nets) settings='probe=' ;;
         check) settings='probe=' ;;
         plan) settings='chips= probe=' ;;
         report) settings='plan= probe=' ;;
-        run) settings='plan= workers= unknown= probe=' ;;
-        save) settings='plan= workers= unknown= every=' ;;
-        resume) settings='plan= workers= unknown= probe=' ;;
+        run) settings='plan= workers= unknown= until= probe=' ;;
+        save) settings='plan= workers= unknown= every= until=' ;;
+        resume) settings='plan= workers= unknown= until= probe=' ;;
         emit) settings='plan=' ;;
         demo) settings='workers=' ;;
     esac

@@ -20,7 +20,7 @@ class Believe(unittest.TestCase):
         self.assertEqual(counted.returncode, 0)
         self.assertNotIn("no comment", counted.stdout)
         lines = int(counted.stdout.split("| all |")[1].split("|")[1])
-        self.assertLessEqual(lines, 1350)
+        self.assertLessEqual(lines, 1400)
 
     def test_a_definition_that_is_missing_is_said(self):
         missing = printed("vw_net:Cover.no_such_value")

@@ -6,9 +6,9 @@ use Rattle.vw_rows.specs.declared.rereading.Rereading.{Rereading}
 use Rattle.vw_trace.specs.declared.fault.RunFault.{RunFault}
 use Rattle.vw_trace.specs.Engines.{SeenEngine}
 use Rattle.vw_trace.specs.Recorders.{SeenRecorder}
-use Rattle.vw_trace.specs.Streamed.{Records}
+use Rattle.vw_trace.specs.Streamed.{Records, worked_by}
 use Rattle.vw_trace.proofs.StreamedTexts.{streams_as}
 
-pub records_as : {S : Type 0} {shelf : shelves.Ghosts S} {Done Other : List (List Bool) → Type 0} {rows rows_after : Rereading S shelf} {engine engine_now : SeenEngine} {recorder : SeenRecorder} {out out_after : SeenSink} {answer : Result (Unit {0}) RunFault}
-    → ((these : List (List Bool)) → Done these → Other these) → Records Done rows rows_after engine engine_now recorder out out_after answer → Records Other rows rows_after engine engine_now recorder out out_after answer
-records_as so records = record { streams = streams_as (λ these. refl) (λ these done. (so these done.0, done.1)) records.streams; silent = records.silent }
+pub records_as : {S : Type 0} {shelf : shelves.Ghosts S} {until : Bool} {Done Other : List (List Bool) → Type 0} {rows rows_after : Rereading S shelf} {engine engine_now : SeenEngine} {recorder : SeenRecorder} {out out_after : SeenSink} {answer : Result (Unit {0}) RunFault}
+    → ((these : List (List Bool)) → Done these → Other these) → Records until Done rows rows_after engine engine_now recorder out out_after answer → Records until Other rows rows_after engine engine_now recorder out out_after answer
+records_as {until = until} {engine = engine} so records = record { streams = streams_as (λ these. refl) (λ these done. (so (worked_by until engine these) done.0, done.1)) records.streams; silent = records.silent }

@@ -1,7 +1,5 @@
 -- What a run of a board leaves. Source: this project.
-use Rattle.std.specs.Prelude.{ℕ, Result, Ok, Err}
 use Rattle.vw_prog.specs.declared.job.Job.{Job}
-use Rattle.vw_trace.specs.declared.fault.RunFault.{RunFault}
 use Rattle.vw_trace.specs.Engines.{SeenEngine}
 
 -- a board, as contracts see it: the job that it has at hand, which begins where the board stands
@@ -11,8 +9,3 @@ pub record SeenRun : Type 0 where
 -- a board at the start of a job, as an engine
 abbrev pub engine_of : Job → SeenEngine
 engine_of job = record { netlist = job.checked.ordered.flat; clock = job.first; state = job.start }
-
--- an answer, whatever the number of clocks
-abbrev pub without_count : Result ℕ RunFault → Result (Unit {0}) RunFault
-without_count (Ok clocks) = Ok tt
-without_count (Err fault) = Err fault

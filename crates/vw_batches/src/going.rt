@@ -19,7 +19,7 @@ use vw_net::histories_join;
 use vw_outside::{BurstGate, Shelf, Sink, put_text};
 use vw_prog::Fabric;
 use vw_rows::Rereading;
-use vw_trace::{BATCH, Engine, Recorder, RunFault, record_run, write_batch};
+use vw_trace::{BATCH, Engine, Recorder, RunFault, record_run, write_clocks};
 
 /// Runs a board with several workers over all rows that a stimulus still gives.
 fn go_together<T: Threads + Wait + Sync, F: Fabric, G: BurstGate, R: Recorder, S: Shelf, O: Sink>(
@@ -27,15 +27,16 @@ fn go_together<T: Threads + Wait + Sync, F: Fabric, G: BurstGate, R: Recorder, S
     board: &mut RunningBoard,
     floor: &mut Floor<'_, '_, '_, T, F, G>,
     rows: &mut Rereading<'_, '_, S>,
+    until: bool,
     recorder: &mut R,
     out: &mut O,
 ) -> Result<(), RunFault>
     requires several { 1 < floor.old.workers }
     requires feeds { Feeds (engine_of board.old.job) rows.old.stimulus.now }
-    requires its { IsOf (engine_of board.old.job) (R.seen recorder.old) }
+    requires its { IsOf until (engine_of board.old.job) (R.seen recorder.old) }
     ensures fabric { floor.new.fabric.ghost_name ≡ floor.old.fabric.ghost_name }
     ensures records { let job = board.old.job in
-        Records (HaveCarried floor.old.workers (planned_of job) job.first job.start
+        Records until (HaveCarried floor.old.workers (planned_of job) job.first job.start
         (F.carried floor.old.fabric.now) (F.carried floor.new.fabric.now))
         rows.old rows.new (engine_of job) (engine_of board.new.job) (R.seen recorder.old)
         (O.seen out.old) (O.seen out.new) result }
@@ -44,21 +45,27 @@ fn go_together<T: Threads + Wait + Sync, F: Fabric, G: BurstGate, R: Recorder, S
     while rows.has_more() {
         let next = rows.next_batch(alloc, BATCH)?;
         let batch = floor.work_out(alloc, board, next)?;
-        write_batch(alloc, recorder, &batch, out)?;
+        let behind = board.state();
+        let ends = write_clocks(alloc, recorder, until, &batch, behind, out)?;
+        if ends {
+            return Ok(());
+        }
     }
-    let rest = recorder.end(alloc, board.state());
+    let last = board.state();
+    let rest = recorder.end(alloc, last);
     put_text(rest, out)?;
     Ok(())
 }
 
 /// Runs a board over all rows that a stimulus still gives, with the workers of a floor, and appends the text that a recorder
-/// makes of it. The clocks are numbered from the board's next one on.
+/// makes of it. The clocks are numbered from the board's next one on. With `until` the last output of its netlist is a trigger:
+/// the text ends behind the first clock in which it is 1, and no batch behind it is read.
 ///
 /// The stimulus is read again in batches of 256 clocks, and each is a job of the board: memory is taken for one batch at a
 /// time, all but that of its lines before its first step. With one worker the fabric isn't touched. With more each batch is
 /// a job over links that are laid for it and lifted after it. The workers run at the same time and wait for each other, so
-/// it isn't proved that it returns. Where it does, each link has carried the words of the plan over all clocks, and after a
-/// fault those of the first clocks alone.
+/// it isn't proved that it returns. Where it does, each link has carried the words of the plan over all clocks, or up to the end
+/// of the batch in which the text ends, and after a fault those of the first clocks alone.
 ///
 /// Where a read or a write fails or memory runs out, a front of the text was appended, and nothing is known of where the board
 /// and the recorder stand. Where nothing is told of the text of the stimulus, it may have changed since it was checked: then it
@@ -69,20 +76,21 @@ pub fn go_on<T: Threads + Wait + Sync, F: Fabric, G: BurstGate, R: Recorder, S: 
     board: &mut RunningBoard,
     floor: &mut Floor<'_, '_, '_, T, F, G>,
     rows: &mut Rereading<'_, '_, S>,
+    until: bool,
     recorder: &mut R,
     out: &mut O,
 ) -> Result<(), RunFault>
     requires feeds { Feeds (engine_of board.old.job) rows.old.stimulus.now }
-    requires its { IsOf (engine_of board.old.job) (R.seen recorder.old) }
+    requires its { IsOf until (engine_of board.old.job) (R.seen recorder.old) }
     ensures fabric { floor.new.fabric.ghost_name ≡ floor.old.fabric.ghost_name }
     ensures records { let job = board.old.job in
-        Records (HaveCarried floor.old.workers (planned_of job) job.first job.start
+        Records until (HaveCarried floor.old.workers (planned_of job) job.first job.start
         (F.carried floor.old.fabric.now) (F.carried floor.new.fabric.now))
         rows.old rows.new (engine_of job) (engine_of board.new.job) (R.seen recorder.old)
         (O.seen out.old) (O.seen out.new) result }
 {
     if floor.workers < 2 {
-        return record_run(alloc, board, rows, recorder, out);
+        return record_run(alloc, board, rows, until, recorder, out);
     }
-    go_together(alloc, board, floor, rows, recorder, out)
+    go_together(alloc, board, floor, rows, until, recorder, out)
 }

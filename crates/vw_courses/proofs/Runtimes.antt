@@ -9,8 +9,8 @@ use Rattle.vw_courses.specs.Steps.Commands.{plain_view, runtime_view}
 use Rattle.vw_courses.specs.Words.{needs_runtime}
 
 pub plain_needs_none : (command : PlainCommand) → needs_runtime (plain_view command) ≡ false
-plain_needs_none (plain.Sim design stimulus unknown probes) = refl
-plain_needs_none (plain.Wave design stimulus unknown probes) = refl
+plain_needs_none (plain.Sim design stimulus unknown until probes) = refl
+plain_needs_none (plain.Wave design stimulus unknown until probes) = refl
 plain_needs_none (plain.Replay its) = refl
 plain_needs_none (plain.ReplayWave its) = refl
 plain_needs_none (plain.Nets design probes) = refl
@@ -27,6 +27,6 @@ plain_needs_none (plain.Nothing place) = refl
 pub runtime_needs_one : (command : RuntimeCommand) → needs_runtime (runtime_view command) ≡ true
 runtime_needs_one (runtime.Grade design stimulus settings) = refl
 runtime_needs_one (runtime.Run its several) = lt-ltb 1 several.workers several.several
-runtime_needs_one (runtime.Save design board stimulus plan workers unknown every) = refl
-runtime_needs_one (runtime.Resume design board state stimulus plan workers probes) = refl
+runtime_needs_one (runtime.Save design board stimulus plan workers unknown every until) = refl
+runtime_needs_one (runtime.Resume design board state stimulus plan workers until probes) = refl
 runtime_needs_one (runtime.Demo size several) = lt-ltb 1 several.workers several.several

@@ -1,5 +1,5 @@
 -- The course of each command.
-use Rattle.std.specs.Prelude.{◌≡◌, ◌++◌, ℕ, Bool, false, List, [], ◌∷◌, drop, length, codes, Option, Some, None}
+use Rattle.std.specs.Prelude.{◌≡◌, ◌++◌, ℕ, Bool, true, false, List, [], ◌∷◌, drop, length, take, codes, Option, Some, None}
 use Rattle.std.specs.List.{All}
 use Rattle.std.specs.Fmt.{decimal}
 use Rattle.vw_net.specs.declared.flat.Flat.{Flat}
@@ -10,7 +10,7 @@ use Rattle.vw_design.specs.Paths.{Word as ProbeWord}
 use Rattle.vw_design.specs.Preorder.{latches}
 use Rattle.vw_design.specs.NetReads.{root_outputs}
 use Rattle.vw_design.specs.Clocks.{columns}
-use Rattle.vw_design.specs.PathHistory.{path_history, path_history_from}
+use Rattle.vw_design.specs.PathHistory.{path_history, path_history_from, path_outputs_from, path_start}
 use Rattle.vw_front.specs.Designs.{WatchedDesign}
 use Rattle.vw_front.specs.Names.{signal_names}
 use Rattle.vw_front.specs.declared.named.NamedNetlist.{NamedNetlist}
@@ -30,13 +30,14 @@ use Rattle.vw_emit_text.specs.Emitted.{emitted_text}
 use Rattle.vw_report.specs.Report.{report_of}
 use Rattle.vw_resume.specs.declared.state.State.{State}
 use Rattle.vw_resume.specs.States.{state_text}
-use Rattle.vw_resume.specs.Resumed.{replayed_trace, replayed_wave}
-use Rattle.vw_resume.specs.Saved.{kept_texts, saved_text}
+use Rattle.vw_resume.specs.Resumed.{replayed_trace_until, replayed_wave_until}
+use Rattle.vw_resume.specs.Saved.{counted_from_start, kept_texts, saved_text}
 use Rattle.vw_rows.specs.Trace.{trace_text, trace_text_from}
 use Rattle.vw_batches.specs.Traffic.{scripts_of, words_from}
-use Rattle.vw_trace.specs.FlatTrace.{flat_trace, trace_from}
+use Rattle.vw_trace.specs.FlatTrace.{flat_trace_until, trace_until}
+use Rattle.vw_trace.specs.Triggers.{clocks_until, shown, shown_count, worked}
 use Rattle.vw_vcd.specs.Lines.{wave_text, wave_text_from}
-use Rattle.vw_wave.specs.FlatWave.{flat_wave, signal_rows}
+use Rattle.vw_wave.specs.FlatWave.{flat_wave_until, signal_rows}
 use Rattle.vw_courses.specs.declared.vocabulary.File.TheVariants as files
 use Rattle.vw_courses.specs.declared.vocabulary.Reason.TheVariants.{Usage}
 use Rattle.vw_courses.specs.Words.{Spelled}
@@ -48,13 +49,39 @@ use Rattle.vw_courses.specs.Messages.{vocabulary, CallWork}
 use Rattle.vw_courses.specs.MayPlan.{PlanBy, made_here, of_file, for_chips, by_file, by_chips}
 use Rattle.vw_courses.specs.Kinds.{design_kind, netlist_kind, named_kind, rows_kind, IsBadAgain, board_kind, plan_kind, chips_kind, soundness, planning, planning_for, reporting, emission, state_kind, clocks_fit, clocks_reach}
 
+-- ---- what ends a run before its stimulus
+
+-- the words of the nets that are watched: the probes, and behind them the trigger, where there is one
+abbrev pub watched_words : Option ProbeWord → List ProbeWord → List ProbeWord
+watched_words None probes = probes
+watched_words (Some net) probes = probes ++ net ∷ []
+
+-- whether there is a trigger; where there is none, the first argument of what stands here is `false`
+abbrev pub ends_by : Option ProbeWord → Bool
+ends_by None = false
+ends_by (Some net) = true
+
+-- of some rows those of the clocks that count, from these latch values on: all, or those up to the first clock in which the last
+-- watched net is 1, and with it
+abbrev pub counted_in : Bool → WatchedDesign → List Bool → List (List Bool) → List (List Bool)
+counted_in false watched state rows = rows
+counted_in true watched state rows = take (clocks_until (path_outputs_from watched.design watched.nets state rows)) rows
+
+-- what is shown of a design over these rows: the trigger isn't
+abbrev pub shown_of : Bool → WatchedDesign → List Bool → List (List Bool) → History
+shown_of until watched state rows = shown until (path_history_from watched.design watched.nets state (counted_in until watched state rows))
+
 -- ---- traces
 
 -- the trace of a design with watched nets over rows, where free latches start at `unknown`
+abbrev pub trace_of_until : Bool → Bool → WatchedDesign → List (List Bool) → List ℕ
+trace_of_until until unknown watched rows =
+    trace_text (length (root_outputs watched.design)) (shown_count until (length watched.nets)) (length (latches watched.design))
+    (shown_of until watched (path_start unknown watched.design) rows)
+
+-- over all rows
 abbrev pub trace_of : Bool → WatchedDesign → List (List Bool) → List ℕ
-trace_of unknown watched rows =
-    trace_text (length (root_outputs watched.design)) (length watched.nets) (length (latches watched.design))
-    (path_history watched.design watched.nets unknown rows)
+trace_of = trace_of_until false
 
 -- the words that each link carries for such rows, where links are used; and no links
 abbrev pub Scripts : Type 0
@@ -107,9 +134,12 @@ design_course stimulus text scripts watched =
 abbrev pub netlist_course : List ℕ → TextOver Ordered → Scripts → Ordered → Course vocabulary
 netlist_course stimulus text scripts ordered = rows_course stimulus ordered.flat.inputs (text ordered) scripts
 
--- the trace of a netlist of which so many last outputs are probes
+-- the trace of a netlist of which so many last outputs are probes, and the one behind them the trigger
+abbrev pub netlist_trace_until : Bool → ℕ → Bool → TextOver Ordered
+netlist_trace_until until count unknown ordered = flat_trace_until until count unknown ordered.flat
+
 abbrev pub netlist_trace : ℕ → Bool → TextOver Ordered
-netlist_trace count unknown ordered = flat_trace count unknown ordered.flat
+netlist_trace = netlist_trace_until false
 
 -- ---- sim
 
@@ -117,22 +147,31 @@ netlist_trace count unknown ordered = flat_trace count unknown ordered.flat
 abbrev pub over_design_course : List ProbeWord → List ℕ → List ℕ → TextOver WatchedDesign → Course vocabulary
 over_design_course probes design stimulus text = stage (design_kind probes) design (design_course stimulus text no_links)
 
-abbrev pub sim_course : List ProbeWord → List ℕ → List ℕ → Bool → Course vocabulary
-sim_course probes design stimulus unknown = over_design_course probes design stimulus (trace_of unknown)
+abbrev pub sim_course : List ProbeWord → Option ProbeWord → List ℕ → List ℕ → Bool → Course vocabulary
+sim_course probes until design stimulus unknown =
+    over_design_course (watched_words until probes) design stimulus (trace_of_until (ends_by until) unknown)
 
 -- ---- wave
 
 -- the wave of a design with watched nets over rows, with the names of its signals, where free latches start at `unknown`
+abbrev pub wave_of_until : Bool → List ProbeWord → Bool → TextOver WatchedDesign
+wave_of_until until probes unknown watched rows =
+    wave_text (signal_names probes watched.design) (signal_rows (shown_of until watched (path_start unknown watched.design) rows))
+
+-- over all rows
 abbrev pub wave_of : List ProbeWord → Bool → TextOver WatchedDesign
-wave_of probes unknown watched rows =
-    wave_text (signal_names probes watched.design) (signal_rows (path_history watched.design watched.nets unknown rows))
+wave_of = wave_of_until false
 
 -- the same of a netlist whose signals have these names
-abbrev pub netlist_wave : List ProbeWord → Bool → TextOver Ordered
-netlist_wave names unknown ordered = flat_wave names unknown ordered.flat
+abbrev pub netlist_wave_until : Bool → List ProbeWord → Bool → TextOver Ordered
+netlist_wave_until until names unknown ordered = flat_wave_until until names unknown ordered.flat
 
-abbrev pub wave_course : List ProbeWord → List ℕ → List ℕ → Bool → Course vocabulary
-wave_course probes design stimulus unknown = over_design_course probes design stimulus (wave_of probes unknown)
+abbrev pub netlist_wave : List ProbeWord → Bool → TextOver Ordered
+netlist_wave = netlist_wave_until false
+
+abbrev pub wave_course : List ProbeWord → Option ProbeWord → List ℕ → List ℕ → Bool → Course vocabulary
+wave_course probes until design stimulus unknown =
+    over_design_course (watched_words until probes) design stimulus (wave_of_until (ends_by until) probes unknown)
 
 -- ---- replays
 
@@ -140,27 +179,41 @@ wave_course probes design stimulus unknown = over_design_course probes design st
 abbrev pub TextFrom : Type 0 → Type 0
 TextFrom Thing = State → TextOver Thing
 
--- what a design does from a state on, over the rows from the state's clock on
-abbrev pub replayed_history : State → WatchedDesign → List (List Bool) → History
-replayed_history from watched rows = path_history_from watched.design watched.nets from.latches (drop from.clock rows)
+-- what is shown of a design from a state on, over the rows from the state's clock on
+abbrev pub replayed_history : Bool → State → WatchedDesign → List (List Bool) → History
+replayed_history until from watched rows = shown_of until watched from.latches (drop from.clock rows)
 
 -- its trace, whose first clock is the state's
+abbrev pub replayed_trace_of_until : Bool → TextFrom WatchedDesign
+replayed_trace_of_until until from watched rows =
+    trace_text_from from.clock (length (root_outputs watched.design)) (shown_count until (length watched.nets)) (length (latches watched.design))
+    (replayed_history until from watched rows)
+
+-- over all these rows
 abbrev pub replayed_trace_of : TextFrom WatchedDesign
-replayed_trace_of from watched rows =
-    trace_text_from from.clock (length (root_outputs watched.design)) (length watched.nets) (length (latches watched.design))
-    (replayed_history from watched rows)
+replayed_trace_of = replayed_trace_of_until false
 
 -- its wave, whose first clock is the state's
+abbrev pub replayed_wave_of_until : Bool → List ProbeWord → TextFrom WatchedDesign
+replayed_wave_of_until until probes from watched rows =
+    wave_text_from from.clock (signal_names probes watched.design) (signal_rows (replayed_history until from watched rows))
+
+-- over all these rows
 abbrev pub replayed_wave_of : List ProbeWord → TextFrom WatchedDesign
-replayed_wave_of probes from watched rows =
-    wave_text_from from.clock (signal_names probes watched.design) (signal_rows (replayed_history from watched rows))
+replayed_wave_of = replayed_wave_of_until false
 
 -- the same of a netlist, of which so many last outputs are probes, or whose signals have these names
+abbrev pub netlist_replay_until : Bool → ℕ → Flat → State → List (List Bool) → List ℕ
+netlist_replay_until until count flat from = replayed_trace_until until count flat from.clock from.latches
+
 abbrev pub netlist_replay : ℕ → Flat → State → List (List Bool) → List ℕ
-netlist_replay count flat from = replayed_trace count flat from.clock from.latches
+netlist_replay = netlist_replay_until false
+
+abbrev pub netlist_replayed_wave_until : Bool → List ProbeWord → Flat → State → List (List Bool) → List ℕ
+netlist_replayed_wave_until until names flat from = replayed_wave_until until names flat from.clock from.latches
 
 abbrev pub netlist_replayed_wave : List ProbeWord → Flat → State → List (List Bool) → List ℕ
-netlist_replayed_wave names flat from = replayed_wave names flat from.clock from.latches
+netlist_replayed_wave = netlist_replayed_wave_until false
 
 -- the stimulus has to reach the state's clock; no links are used
 abbrev pub reached_course : List ℕ → ℕ → (State → List (List Bool) → List ℕ) → State → Course vocabulary
@@ -293,28 +346,30 @@ emit_course design board by = ready_course [] design board by emit_rest
 
 -- ---- run
 
--- the words that the links of a planned board carry from a clock and latch values on: none with one worker, which uses no
--- link
-abbrev pub scripts_from : ℕ → PlannedBoard → ℕ → List Bool → Scripts
-scripts_from workers planned first state rows = scripts_of workers (λ link. words_from planned link first state rows)
+-- the words that the links of a planned board carry from a clock and latch values on, where the last output may be a trigger:
+-- none with one worker, which uses no link
+abbrev pub scripts_from : Bool → ℕ → PlannedBoard → ℕ → List Bool → Scripts
+scripts_from until workers planned first state rows =
+    scripts_of workers (λ link. words_from planned link first state (worked until planned.ordered.flat state rows))
 
 -- the same from the beginning
-abbrev pub board_scripts : ℕ → Bool → PlannedBoard → Scripts
-board_scripts workers unknown planned = scripts_from workers planned 0 (start_values unknown planned.ordered.flat.cells)
+abbrev pub board_scripts : Bool → ℕ → Bool → PlannedBoard → Scripts
+board_scripts until workers unknown planned = scripts_from until workers planned 0 (start_values unknown planned.ordered.flat.cells)
 
 -- a planned board runs: what is written is a text of its netlist, which knows no plan
-abbrev pub board_course : List ℕ → TextOver Ordered → ℕ → Bool → Rest
-board_course stimulus text workers unknown ordered board plan =
-    netlist_course stimulus text (board_scripts workers unknown (planned_board ordered board plan)) ordered
+abbrev pub board_course : List ℕ → TextOver Ordered → Bool → ℕ → Bool → Rest
+board_course stimulus text until workers unknown ordered board plan =
+    netlist_course stimulus text (board_scripts until workers unknown (planned_board ordered board plan)) ordered
 
 -- such a board is made ready before
-abbrev pub over_rows_course : List ProbeWord → List ℕ → List ℕ → PlanBy → List ℕ → TextOver Ordered → ℕ → Bool → Course vocabulary
-over_rows_course probes design board by stimulus text workers unknown =
-    ready_course probes design board by (board_course stimulus text workers unknown)
+abbrev pub over_rows_course : List ProbeWord → List ℕ → List ℕ → PlanBy → List ℕ → TextOver Ordered → Bool → ℕ → Bool → Course vocabulary
+over_rows_course probes design board by stimulus text until workers unknown =
+    ready_course probes design board by (board_course stimulus text until workers unknown)
 
-abbrev pub run_course : List ProbeWord → List ℕ → List ℕ → PlanBy → List ℕ → ℕ → Bool → Course vocabulary
-run_course probes design board by stimulus workers unknown =
-    over_rows_course probes design board by stimulus (netlist_trace (length probes) unknown) workers unknown
+abbrev pub run_course : List ProbeWord → Option ProbeWord → List ℕ → List ℕ → PlanBy → List ℕ → ℕ → Bool → Course vocabulary
+run_course probes until design board by stimulus workers unknown =
+    over_rows_course (watched_words until probes) design board by stimulus (netlist_trace_until (ends_by until) (length probes) unknown)
+    (ends_by until) workers unknown
 
 -- ---- save
 
@@ -331,33 +386,41 @@ abbrev pub texts_kept : {Thing : Type 0} → Option ℕ → TextOver Thing → T
 texts_kept None text = text
 texts_kept (Some every) text = λ its rows. kept_texts every (text its) rows
 
-abbrev pub save_course : List ℕ → List ℕ → PlanBy → List ℕ → ℕ → Bool → Option ℕ → Course vocabulary
-save_course design board by stimulus workers unknown every =
-    over_rows_course [] design board by stimulus (texts_kept every (netlist_state unknown)) workers unknown
+-- a text of the rows that count, from the start values on
+abbrev pub over_counted : Bool → Bool → TextOver WatchedDesign → TextOver WatchedDesign
+over_counted until unknown text watched rows = text watched (counted_in until watched (path_start unknown watched.design) rows)
+
+abbrev pub netlist_counted : Bool → Bool → TextOver Ordered → TextOver Ordered
+netlist_counted until unknown text ordered rows = text ordered (counted_from_start until unknown ordered.flat rows)
+
+abbrev pub save_course : Option ProbeWord → List ℕ → List ℕ → PlanBy → List ℕ → ℕ → Bool → Option ℕ → Course vocabulary
+save_course until design board by stimulus workers unknown every =
+    over_rows_course (watched_words until []) design board by stimulus
+    (netlist_counted (ends_by until) unknown (texts_kept every (netlist_state unknown))) (ends_by until) workers unknown
 
 -- ---- resume
 
 -- a planned board goes on from a state, where the clocks of the state and of the rows aren't too many together
--- the last so many outputs of its netlist are probes
-abbrev pub state_course : ℕ → List ℕ → ℕ → PlannedBoard → State → Course vocabulary
-state_course count stimulus workers planned state =
+-- the last so many outputs of its netlist are probes, and the one behind them may be a trigger
+abbrev pub state_course : Bool → ℕ → List ℕ → ℕ → PlannedBoard → State → Course vocabulary
+state_course until count stimulus workers planned state =
     checked_rows_course stimulus planned.ordered.flat.inputs (check_by (clocks_fit state.clock))
-    (trace_from count state.clock state.latches planned.ordered.flat) (scripts_from workers planned state.clock state.latches)
+    (trace_until until count state.clock state.latches planned.ordered.flat) (scripts_from until workers planned state.clock state.latches)
 
 -- the state of the design is read before
-abbrev pub resume_rest : ℕ → List ℕ → List ℕ → ℕ → Rest
-resume_rest count state stimulus workers ordered board plan =
-    stage (state_kind (latch_count ordered.flat.cells)) state (state_course count stimulus workers (planned_board ordered board plan))
+abbrev pub resume_rest : Bool → ℕ → List ℕ → List ℕ → ℕ → Rest
+resume_rest until count state stimulus workers ordered board plan =
+    stage (state_kind (latch_count ordered.flat.cells)) state (state_course until count stimulus workers (planned_board ordered board plan))
 
-abbrev pub resume_course : List ProbeWord → List ℕ → List ℕ → PlanBy → List ℕ → List ℕ → ℕ → Course vocabulary
-resume_course probes design board by state stimulus workers =
-    ready_course probes design board by (resume_rest (length probes) state stimulus workers)
+abbrev pub resume_course : List ProbeWord → Option ProbeWord → List ℕ → List ℕ → PlanBy → List ℕ → List ℕ → ℕ → Course vocabulary
+resume_course probes until design board by state stimulus workers =
+    ready_course (watched_words until probes) design board by (resume_rest (ends_by until) (length probes) state stimulus workers)
 
 -- ---- demo
 
--- the run of a demo: no net is watched, and free latches start at 0
+-- the run of a demo: no net is watched, none ends it, and free latches start at 0
 abbrev pub demo_run : ℕ → Course vocabulary
-demo_run workers = run_course [] design_name board_name made_here stimulus_name workers false
+demo_run workers = run_course [] None design_name board_name made_here stimulus_name workers false
 
 -- it goes over the generated texts, and a summary of its trace is written
 abbrev pub demo_course : ℕ → ℕ → Course vocabulary
@@ -370,21 +433,23 @@ abbrev pub usage_course : ℕ → Course vocabulary
 usage_course place = refuses (Usage place)
 
 abbrev pub course_of : Spelled → Course vocabulary
-course_of (words.sim design stimulus unknown probes) = sim_course probes design stimulus unknown
+course_of (words.sim design stimulus unknown until probes) = sim_course probes until design stimulus unknown
 course_of (words.check design board plan probes) = check_course probes design board plan
 course_of (words.plan design board chips probes) = plan_course probes design board (by_chips chips)
-course_of (words.run design board stimulus given workers unknown probes) =
-    run_course probes design board (by_file given) stimulus workers unknown
+course_of (words.run design board stimulus given workers unknown until probes) =
+    run_course probes until design board (by_file given) stimulus workers unknown
 course_of (words.demo cells workers) = demo_course cells workers
-course_of (words.wave design stimulus unknown probes) = wave_course probes design stimulus unknown
+course_of (words.wave design stimulus unknown until probes) = wave_course probes until design stimulus unknown
 course_of (words.grade design stimulus workers unknown share) = grade_course share design stimulus unknown
-course_of (words.replay design stimulus state probes) = replay_course probes design state stimulus replayed_trace_of
-course_of (words.replay_wave design stimulus state probes) = replay_course probes design state stimulus (replayed_wave_of probes)
+course_of (words.replay design stimulus state until probes) =
+    replay_course (watched_words until probes) design state stimulus (replayed_trace_of_until (ends_by until))
+course_of (words.replay_wave design stimulus state until probes) =
+    replay_course (watched_words until probes) design state stimulus (replayed_wave_of_until (ends_by until) probes)
 course_of (words.nets design probes) = nets_course probes design
-course_of (words.save design board stimulus given workers unknown every) =
-    save_course design board (by_file given) stimulus workers unknown every
-course_of (words.resume design board state stimulus given workers probes) =
-    resume_course probes design board (by_file given) state stimulus workers
+course_of (words.save design board stimulus given workers unknown every until) =
+    save_course until design board (by_file given) stimulus workers unknown every
+course_of (words.resume design board state stimulus given workers until probes) =
+    resume_course probes until design board (by_file given) state stimulus workers
 course_of (words.report design board given probes) = report_course probes design board (by_file given)
 course_of (words.emit design board given) = emit_course design board (by_file given)
 course_of words.help = writes help_text

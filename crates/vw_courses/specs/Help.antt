@@ -9,23 +9,22 @@ help_text = lines_text (
     codes "usage: vwires COMMAND FILE.. [SETTING..]" ∷
     codes "" ∷
     codes "  sim DESIGN STIM             runs a design, and writes its trace" ∷
-    codes "      [unknown=0|1] [replay=STATE] [probe=NET].." ∷
+    codes "      [unknown=0|1] [replay=STATE] [until=NET] [probe=NET].." ∷
     codes "  wave DESIGN STIM            runs a design, and writes its waveform (VCD)" ∷
-    codes "      [unknown=0|1] [replay=STATE] [probe=NET].." ∷
+    codes "      [unknown=0|1] [replay=STATE] [until=NET] [probe=NET].." ∷
     codes "  grade DESIGN STIM           writes which stuck nets a stimulus does not reveal" ∷
     codes "      [workers=N] [unknown=0|1] [part=K/N]" ∷
     codes "  nets DESIGN [probe=NET]..   writes the nets and the cells of a design" ∷
     codes "  check DESIGN BOARD PLAN [probe=NET]..  checks a plan, and writes its size" ∷
-    codes "  plan DESIGN BOARD           makes a plan, and writes it" ∷
-    codes "      [chips=FILE] [probe=NET].." ∷
+    codes "  plan DESIGN BOARD [chips=FILE] [probe=NET]..  makes a plan, and writes it" ∷
     codes "  report DESIGN BOARD         writes a plan in numbers and names, with a bound" ∷
     codes "      [plan=FILE] [probe=NET].." ∷
     codes "  run DESIGN BOARD STIM       runs a design on a board, and writes its trace" ∷
-    codes "      [plan=FILE] [workers=N] [unknown=0|1] [probe=NET].." ∷
+    codes "      [plan=FILE] [workers=N] [unknown=0|1] [until=NET] [probe=NET].." ∷
     codes "  save DESIGN BOARD STIM      runs a design on a board, and writes its state" ∷
-    codes "      [plan=FILE] [workers=N] [unknown=0|1] [every=N]" ∷
+    codes "      [plan=FILE] [workers=N] [unknown=0|1] [every=N] [until=NET]" ∷
     codes "  resume DESIGN BOARD STATE STIM  goes on from a state, and writes the trace" ∷
-    codes "      [plan=FILE] [workers=N] [unknown=0|1] [probe=NET].." ∷
+    codes "      [plan=FILE] [workers=N] [unknown=0|1] [until=NET] [probe=NET].." ∷
     codes "  emit DESIGN BOARD [plan=FILE]  writes a planned board as a design in BLIF" ∷
     codes "  demo CELLS                  runs a generated design of 1 to 20000 cells on" ∷
     codes "      [workers=N]             a generated board, and writes a summary" ∷
@@ -43,6 +42,7 @@ help_text = lines_text (
     codes "  plan=FILE      the plan to run by (one is made)" ∷
     codes "  chips=FILE     the chip of each cell, as in a plan (they are chosen)" ∷
     codes "  replay=STATE   the state to go on from, over the rows behind it (the start)" ∷
+    codes "  until=NET      ends behind the first clock in which NET is 1 (behind the last)" ∷
     codes "  every=N        a state for each N clocks, too (only one at the end)" ∷
     codes "  part=K/N       the Kth of N shares of the faults, N up to 65536 (all)" ∷
     codes "  workers=N      how many threads run the chips or grade, 1 to 64 (4)" ∷

@@ -9,18 +9,18 @@ use Rattle.vw_courses.specs.declared.forms.Verb.TheVariants as verbs
 
 -- a command with its files and settings; or none, and the number of the first word, from 1, that no command has there
 pub data Spelled : Type 0 where
-  sim : (design stimulus : List ℕ) (unknown : Bool) (probes : List (List ℕ)) → Spelled
-  wave : (design stimulus : List ℕ) (unknown : Bool) (probes : List (List ℕ)) → Spelled
+  sim : (design stimulus : List ℕ) (unknown : Bool) (until : Option (List ℕ)) (probes : List (List ℕ)) → Spelled
+  wave : (design stimulus : List ℕ) (unknown : Bool) (until : Option (List ℕ)) (probes : List (List ℕ)) → Spelled
   grade : (design stimulus : List ℕ) (workers : ℕ) (unknown : Bool) (share : Option (ℕ × ℕ)) → Spelled
-  replay : (design stimulus state : List ℕ) (probes : List (List ℕ)) → Spelled
-  replay_wave : (design stimulus state : List ℕ) (probes : List (List ℕ)) → Spelled
+  replay : (design stimulus state : List ℕ) (until : Option (List ℕ)) (probes : List (List ℕ)) → Spelled
+  replay_wave : (design stimulus state : List ℕ) (until : Option (List ℕ)) (probes : List (List ℕ)) → Spelled
   nets : (design : List ℕ) (probes : List (List ℕ)) → Spelled
   check : (design board plan : List ℕ) (probes : List (List ℕ)) → Spelled
   plan : (design board : List ℕ) (chips : Option (List ℕ)) (probes : List (List ℕ)) → Spelled
-  run : (design board stimulus : List ℕ) (given : Option (List ℕ)) (workers : ℕ) (unknown : Bool) (probes : List (List ℕ)) → Spelled
+  run : (design board stimulus : List ℕ) (given : Option (List ℕ)) (workers : ℕ) (unknown : Bool) (until : Option (List ℕ)) (probes : List (List ℕ)) → Spelled
   demo : (cells workers : ℕ) → Spelled
-  save : (design board stimulus : List ℕ) (given : Option (List ℕ)) (workers : ℕ) (unknown : Bool) (every : Option ℕ) → Spelled
-  resume : (design board state stimulus : List ℕ) (given : Option (List ℕ)) (workers : ℕ) (probes : List (List ℕ)) → Spelled
+  save : (design board stimulus : List ℕ) (given : Option (List ℕ)) (workers : ℕ) (unknown : Bool) (every : Option ℕ) (until : Option (List ℕ)) → Spelled
+  resume : (design board state stimulus : List ℕ) (given : Option (List ℕ)) (workers : ℕ) (until : Option (List ℕ)) (probes : List (List ℕ)) → Spelled
   report : (design board : List ℕ) (given : Option (List ℕ)) (probes : List (List ℕ)) → Spelled
   emit : (design board : List ℕ) (given : Option (List ℕ)) → Spelled
   help : Spelled
@@ -57,6 +57,10 @@ every_setting = record { name = codes "every"; value = number 1 4294967295; time
 abbrev pub replay_setting : Setting
 replay_setting = record { name = codes "replay"; value = name; times = 1 }
 
+-- a net that ends a run, behind the first clock in which it is 1
+abbrev pub until_setting : Setting
+until_setting = record { name = codes "until"; value = name; times = 1 }
+
 -- a share of the faults that are graded, of so many
 abbrev pub part_setting : Setting
 part_setting = record { name = codes "part"; value = part 65536; times = 1 }
@@ -64,6 +68,10 @@ part_setting = record { name = codes "part"; value = part 65536; times = 1 }
 -- the value of latches that start unknown: 0 where none is given
 abbrev pub unknown_given : List (List ℕ) → Bool
 unknown_given settings = bit_given unknown_setting false settings
+
+-- where no word says so, no net ends the run
+abbrev pub until_given : List (List ℕ) → Option (List ℕ)
+until_given settings = name_given until_setting settings
 
 -- the form lets no more probes through
 abbrev pub probes_given : List (List ℕ) → List (List ℕ)
@@ -96,25 +104,25 @@ cells_given word = max 1 (min (number_or_zero word) 20000)
 -- ---- what words of the form of a command spell
 
 -- a run from the start values, or from a state on: then each latch starts as the state has it
-abbrev pub sim_with : Option (List ℕ) → List ℕ → List ℕ → Bool → List (List ℕ) → Spelled
-sim_with None design stimulus unknown probes = sim design stimulus unknown probes
-sim_with (Some state) design stimulus unknown probes = replay design stimulus state probes
+abbrev pub sim_with : Option (List ℕ) → List ℕ → List ℕ → Bool → Option (List ℕ) → List (List ℕ) → Spelled
+sim_with None design stimulus unknown until probes = sim design stimulus unknown until probes
+sim_with (Some state) design stimulus unknown until probes = replay design stimulus state until probes
 
 -- and so its wave
-abbrev pub wave_with : Option (List ℕ) → List ℕ → List ℕ → Bool → List (List ℕ) → Spelled
-wave_with None design stimulus unknown probes = wave design stimulus unknown probes
-wave_with (Some state) design stimulus unknown probes = replay_wave design stimulus state probes
+abbrev pub wave_with : Option (List ℕ) → List ℕ → List ℕ → Bool → Option (List ℕ) → List (List ℕ) → Spelled
+wave_with None design stimulus unknown until probes = wave design stimulus unknown until probes
+wave_with (Some state) design stimulus unknown until probes = replay_wave design stimulus state until probes
 
 -- what words of the form of `sim` spell
 abbrev pub sim_of : List (List ℕ) → Option Spelled
 sim_of (verb ∷ design ∷ stimulus ∷ settings) =
-    Some (sim_with (name_given replay_setting settings) design stimulus (unknown_given settings) (probes_given settings))
+    Some (sim_with (name_given replay_setting settings) design stimulus (unknown_given settings) (until_given settings) (probes_given settings))
 sim_of words = None
 
 -- what words of the form of `wave` spell
 abbrev pub wave_of : List (List ℕ) → Option Spelled
 wave_of (verb ∷ design ∷ stimulus ∷ settings) =
-    Some (wave_with (name_given replay_setting settings) design stimulus (unknown_given settings) (probes_given settings))
+    Some (wave_with (name_given replay_setting settings) design stimulus (unknown_given settings) (until_given settings) (probes_given settings))
 wave_of words = None
 
 -- what words of the form of `grade` spell
@@ -145,19 +153,19 @@ report_of words = None
 -- what words of the form of `run` spell
 abbrev pub run_of : List (List ℕ) → Option Spelled
 run_of (verb ∷ design ∷ board ∷ stimulus ∷ settings) =
-    Some (run design board stimulus (name_given plan_setting settings) (workers_given settings) (unknown_given settings) (probes_given settings))
+    Some (run design board stimulus (name_given plan_setting settings) (workers_given settings) (unknown_given settings) (until_given settings) (probes_given settings))
 run_of words = None
 
 -- what words of the form of `save` spell
 abbrev pub save_of : List (List ℕ) → Option Spelled
 save_of (verb ∷ design ∷ board ∷ stimulus ∷ settings) =
-    Some (save design board stimulus (name_given plan_setting settings) (workers_given settings) (unknown_given settings) (every_given settings))
+    Some (save design board stimulus (name_given plan_setting settings) (workers_given settings) (unknown_given settings) (every_given settings) (until_given settings))
 save_of words = None
 
 -- each latch starts as the state has it, so the setting of free latches has no effect
 abbrev pub resume_of : List (List ℕ) → Option Spelled
 resume_of (verb ∷ design ∷ board ∷ state ∷ stimulus ∷ settings) =
-    Some (resume design board state stimulus (name_given plan_setting settings) (workers_given settings) (probes_given settings))
+    Some (resume design board state stimulus (name_given plan_setting settings) (workers_given settings) (until_given settings) (probes_given settings))
 resume_of words = None
 
 -- what words of the form of `emit` spell
@@ -205,8 +213,8 @@ file = any name
 -- the commands, each with its form
 abbrev pub commands : List CommandForm
 commands =
-    record { verb = verbs.Sim; form = form_with (codes "sim") (file ∷ file ∷ []) (unknown_setting ∷ replay_setting ∷ probe_setting ∷ []) }
-    ∷ record { verb = verbs.Wave; form = form_with (codes "wave") (file ∷ file ∷ []) (unknown_setting ∷ replay_setting ∷ probe_setting ∷ []) }
+    record { verb = verbs.Sim; form = form_with (codes "sim") (file ∷ file ∷ []) (unknown_setting ∷ replay_setting ∷ until_setting ∷ probe_setting ∷ []) }
+    ∷ record { verb = verbs.Wave; form = form_with (codes "wave") (file ∷ file ∷ []) (unknown_setting ∷ replay_setting ∷ until_setting ∷ probe_setting ∷ []) }
     ∷ record { verb = verbs.Grade; form = form_with (codes "grade") (file ∷ file ∷ []) (workers_setting ∷ unknown_setting ∷ part_setting ∷ []) }
     ∷ record { verb = verbs.Nets; form = form_with (codes "nets") (file ∷ []) (probe_setting ∷ []) }
     ∷ record { verb = verbs.Check; form = form_with (codes "check") (file ∷ file ∷ file ∷ []) (probe_setting ∷ []) }
@@ -214,15 +222,15 @@ commands =
     ∷ record { verb = verbs.Report; form = form_with (codes "report") (file ∷ file ∷ []) (plan_setting ∷ probe_setting ∷ []) }
     ∷ record {
       verb = verbs.Run;
-      form = form_with (codes "run") (file ∷ file ∷ file ∷ []) (plan_setting ∷ workers_setting ∷ unknown_setting ∷ probe_setting ∷ []);
+      form = form_with (codes "run") (file ∷ file ∷ file ∷ []) (plan_setting ∷ workers_setting ∷ unknown_setting ∷ until_setting ∷ probe_setting ∷ []);
     }
     ∷ record {
       verb = verbs.Save;
-      form = form_with (codes "save") (file ∷ file ∷ file ∷ []) (plan_setting ∷ workers_setting ∷ unknown_setting ∷ every_setting ∷ []);
+      form = form_with (codes "save") (file ∷ file ∷ file ∷ []) (plan_setting ∷ workers_setting ∷ unknown_setting ∷ every_setting ∷ until_setting ∷ []);
     }
     ∷ record {
       verb = verbs.Resume;
-      form = form_with (codes "resume") (file ∷ file ∷ file ∷ file ∷ []) (plan_setting ∷ workers_setting ∷ unknown_setting ∷ probe_setting ∷ []);
+      form = form_with (codes "resume") (file ∷ file ∷ file ∷ file ∷ []) (plan_setting ∷ workers_setting ∷ unknown_setting ∷ until_setting ∷ probe_setting ∷ []);
     }
     ∷ record { verb = verbs.Emit; form = form_with (codes "emit") (file ∷ file ∷ []) (plan_setting ∷ []) }
     ∷ record { verb = verbs.Demo; form = form_with (codes "demo") (any (number 1 20000) ∷ []) (workers_setting ∷ []) }
@@ -245,15 +253,15 @@ spelled_by words =
 
 -- whether a command needs a runtime: what runs a board with several workers does, and each grading, saving and resumption
 abbrev pub needs_runtime : Spelled → Bool
-needs_runtime (run design board stimulus given workers unknown probes) = ltb 1 workers
+needs_runtime (run design board stimulus given workers unknown until probes) = ltb 1 workers
 needs_runtime (demo cells workers) = ltb 1 workers
 needs_runtime (grade design stimulus workers unknown share) = true
-needs_runtime (save design board stimulus given workers unknown every) = true
-needs_runtime (resume design board state stimulus given workers probes) = true
-needs_runtime (sim design stimulus unknown probes) = false
-needs_runtime (wave design stimulus unknown probes) = false
-needs_runtime (replay design stimulus state probes) = false
-needs_runtime (replay_wave design stimulus state probes) = false
+needs_runtime (save design board stimulus given workers unknown every until) = true
+needs_runtime (resume design board state stimulus given workers until probes) = true
+needs_runtime (sim design stimulus unknown until probes) = false
+needs_runtime (wave design stimulus unknown until probes) = false
+needs_runtime (replay design stimulus state until probes) = false
+needs_runtime (replay_wave design stimulus state until probes) = false
 needs_runtime (nets design probes) = false
 needs_runtime (check design board given probes) = false
 needs_runtime (plan design board chips probes) = false
@@ -265,15 +273,15 @@ needs_runtime (nothing place) = false
 
 -- whether a command runs a board with several workers, whose words go over links
 abbrev pub uses_links : Spelled → Bool
-uses_links (run design board stimulus given workers unknown probes) = ltb 1 workers
+uses_links (run design board stimulus given workers unknown until probes) = ltb 1 workers
 uses_links (demo cells workers) = ltb 1 workers
-uses_links (save design board stimulus given workers unknown every) = ltb 1 workers
-uses_links (resume design board state stimulus given workers probes) = ltb 1 workers
-uses_links (sim design stimulus unknown probes) = false
-uses_links (wave design stimulus unknown probes) = false
+uses_links (save design board stimulus given workers unknown every until) = ltb 1 workers
+uses_links (resume design board state stimulus given workers until probes) = ltb 1 workers
+uses_links (sim design stimulus unknown until probes) = false
+uses_links (wave design stimulus unknown until probes) = false
 uses_links (grade design stimulus workers unknown share) = false
-uses_links (replay design stimulus state probes) = false
-uses_links (replay_wave design stimulus state probes) = false
+uses_links (replay design stimulus state until probes) = false
+uses_links (replay_wave design stimulus state until probes) = false
 uses_links (nets design probes) = false
 uses_links (check design board given probes) = false
 uses_links (plan design board chips probes) = false

@@ -43,6 +43,8 @@ pub struct RunWords<'a> {
     pub plan: Option<&'a [u8]>,
     /// The value that free latches start at.
     pub unknown: bool,
+    /// The net whose first 1 ends the run, where one is named.
+    pub until: Option<&'a [u8]>,
     /// The nets that are watched.
     pub probes: Names<'a>,
 }
@@ -54,6 +56,8 @@ pub struct ReplayWords<'a> {
     pub stimulus: &'a Name,
     /// The name of the state from which the design goes on.
     pub state: &'a [u8],
+    /// The net whose first 1 ends the run, where one is named.
+    pub until: Option<&'a [u8]>,
     /// The nets that are watched.
     pub probes: Names<'a>,
 }
@@ -67,6 +71,8 @@ pub enum PlainCommand<'a> {
         stimulus: &'a Name,
         /// The value that free latches start at.
         unknown: bool,
+        /// The net whose first 1 ends the run, where one is named.
+        until: Option<&'a [u8]>,
         /// The nets that are watched.
         probes: Names<'a>,
     },
@@ -76,6 +82,8 @@ pub enum PlainCommand<'a> {
         stimulus: &'a Name,
         /// The value that free latches start at.
         unknown: bool,
+        /// The net whose first 1 ends the run, where one is named.
+        until: Option<&'a [u8]>,
         /// The nets that are watched.
         probes: Names<'a>,
     },
@@ -164,6 +172,8 @@ pub enum RuntimeCommand<'a> {
         unknown: bool,
         /// Behind how many clocks a state is written, where this is given.
         every: Option<Interval>,
+        /// The net whose first 1 ends the run, where one is named.
+        until: Option<&'a [u8]>,
     },
     /// Runs a design on a board over a stimulus from a state on, and writes its trace. Each latch starts as the state has
     /// it.
@@ -176,6 +186,8 @@ pub enum RuntimeCommand<'a> {
         plan: Option<&'a [u8]>,
         /// How many workers run the nodes of the board.
         workers: u64,
+        /// The net whose first 1 ends the run, where one is named.
+        until: Option<&'a [u8]>,
         /// The nets that are watched.
         probes: Names<'a>,
     },

@@ -78,6 +78,13 @@ pub const REPLAY: Setting = Setting {
     times: 1,
 };
 
+/// A net that ends a run, behind the first clock in which it is 1.
+pub const UNTIL: Setting = Setting {
+    name: b"until",
+    value: Value::Name,
+    times: 1,
+};
+
 /// How many shares the faults are cut into at most.
 pub const MOST_SHARES: u64 = 65_536;
 
@@ -94,16 +101,16 @@ pub const DEFAULT_WORKERS: u64 = 4;
 /// How many cells a demo has at most.
 pub const MOST_CELLS: u64 = 20_000;
 
-/// sim DESIGN STIM [unknown=0|1] [replay=STATE] [probe=NET]..
+/// sim DESIGN STIM [unknown=0|1] [replay=STATE] [until=NET] [probe=NET]..
 const SIM: Form = Form {
     places: &[Place::Keyword(b"sim"), FILE, FILE],
-    settings: &[UNKNOWN, REPLAY, PROBE],
+    settings: &[UNKNOWN, REPLAY, UNTIL, PROBE],
 };
 
-/// wave DESIGN STIM [unknown=0|1] [replay=STATE] [probe=NET]..
+/// wave DESIGN STIM [unknown=0|1] [replay=STATE] [until=NET] [probe=NET]..
 const WAVE: Form = Form {
     places: &[Place::Keyword(b"wave"), FILE, FILE],
-    settings: &[UNKNOWN, REPLAY, PROBE],
+    settings: &[UNKNOWN, REPLAY, UNTIL, PROBE],
 };
 
 /// grade DESIGN STIM [workers=N] [unknown=0|1] [part=K/N]
@@ -136,22 +143,22 @@ const REPORT: Form = Form {
     settings: &[PLAN, PROBE],
 };
 
-/// run DESIGN BOARD STIM [plan=FILE] [workers=N] [unknown=0|1] [probe=NET]..
+/// run DESIGN BOARD STIM [plan=FILE] [workers=N] [unknown=0|1] [until=NET] [probe=NET]..
 const RUN: Form = Form {
     places: &[Place::Keyword(b"run"), FILE, FILE, FILE],
-    settings: &[PLAN, WORKERS, UNKNOWN, PROBE],
+    settings: &[PLAN, WORKERS, UNKNOWN, UNTIL, PROBE],
 };
 
-/// save DESIGN BOARD STIM [plan=FILE] [workers=N] [unknown=0|1] [every=N]
+/// save DESIGN BOARD STIM [plan=FILE] [workers=N] [unknown=0|1] [every=N] [until=NET]
 const SAVE: Form = Form {
     places: &[Place::Keyword(b"save"), FILE, FILE, FILE],
-    settings: &[PLAN, WORKERS, UNKNOWN, EVERY],
+    settings: &[PLAN, WORKERS, UNKNOWN, EVERY, UNTIL],
 };
 
-/// resume DESIGN BOARD STATE STIM [plan=FILE] [workers=N] [unknown=0|1] [probe=NET]..
+/// resume DESIGN BOARD STATE STIM [plan=FILE] [workers=N] [unknown=0|1] [until=NET] [probe=NET]..
 const RESUME: Form = Form {
     places: &[Place::Keyword(b"resume"), FILE, FILE, FILE, FILE],
-    settings: &[PLAN, WORKERS, UNKNOWN, PROBE],
+    settings: &[PLAN, WORKERS, UNKNOWN, UNTIL, PROBE],
 };
 
 /// emit DESIGN BOARD [plan=FILE]

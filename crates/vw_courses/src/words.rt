@@ -1,7 +1,7 @@
 ghost use Rattle.std.specs.Prelude.{◌≡◌, ◌≤◌, IfOk, length, map, option_and_then, option_map, take};
 ghost use Rattle.std.specs.Option.{option_map_or};
 ghost use Rattle.vw_courses.specs.Words.{spelled_as, spelled_by, found_verb, sim_of, wave_of, grade_of, nets_of, check_of, plan_of, report_of, run_of, save_of, resume_of, emit_of, demo_of, cells_given};
-ghost use Rattle.vw_courses.specs.Words.{plan_setting, replay_setting, demo as spelled_demo, probes_given, run as spelled_run, sim_with as spelled_sim_with, wave_with as spelled_wave_with, every_given, share_given, unknown_given, workers_given};
+ghost use Rattle.vw_courses.specs.Words.{plan_setting, replay_setting, demo as spelled_demo, probes_given, run as spelled_run, sim_with as spelled_sim_with, wave_with as spelled_wave_with, every_given, share_given, unknown_given, until_given, workers_given};
 ghost use Rattle.vw_courses.specs.declared.forms.TheConstants.{MOST_PROBES};
 ghost use Rattle.vw_courses.specs.Steps.Commands.{command_form, command_view, plain_view};
 ghost use Rattle.vw_words.specs.Values.{name_given};
@@ -11,7 +11,7 @@ use crate::command::{
 };
 use crate::forms::{
     CHIPS, COMMANDS, DEFAULT_WORKERS, EVERY, MOST_CELLS, MOST_PROBES, MOST_SHARES, PART, PLAN,
-    PROBE, REPLAY, UNKNOWN, Verb, WORKERS,
+    PROBE, REPLAY, UNKNOWN, UNTIL, Verb, WORKERS,
 };
 use crate::size::Size;
 use std::alloc::{AllocError, Global};
@@ -73,20 +73,24 @@ fn share_in(settings: &[Name]) -> Option<Share>
 /// A run of a design over a stimulus with these settings, from the start values or from a state on.
 fn sim_with<'a>(design: &'a Name, stimulus: &'a Name, settings: &'a [Name]) -> PlainCommand<'a>
     ensures { plain_view result ≡ spelled_sim_with (name_given replay_setting settings.now)
-        design.now stimulus.now (unknown_given settings.now) (probes_given settings.now) }
+        design.now stimulus.now (unknown_given settings.now) (until_given settings.now)
+        (probes_given settings.now) }
 {
+    let until = UNTIL.name(settings);
     let probes = PROBE.names(settings);
     match REPLAY.name(settings) {
         Some(state) => PlainCommand::Replay(ReplayWords {
             design,
             stimulus,
             state,
+            until,
             probes,
         }),
         None => PlainCommand::Sim {
             design,
             stimulus,
             unknown: UNKNOWN.bit(settings, false),
+            until,
             probes,
         },
     }
@@ -107,20 +111,24 @@ fn sim_of(words: &[Name]) -> Option<Command<'_>>
 /// The wave of a design over a stimulus with these settings, from the start values or from a state on.
 fn wave_with<'a>(design: &'a Name, stimulus: &'a Name, settings: &'a [Name]) -> PlainCommand<'a>
     ensures { plain_view result ≡ spelled_wave_with (name_given replay_setting settings.now)
-        design.now stimulus.now (unknown_given settings.now) (probes_given settings.now) }
+        design.now stimulus.now (unknown_given settings.now) (until_given settings.now)
+        (probes_given settings.now) }
 {
+    let until = UNTIL.name(settings);
     let probes = PROBE.names(settings);
     match REPLAY.name(settings) {
         Some(state) => PlainCommand::ReplayWave(ReplayWords {
             design,
             stimulus,
             state,
+            until,
             probes,
         }),
         None => PlainCommand::Wave {
             design,
             stimulus,
             unknown: UNKNOWN.bit(settings, false),
+            until,
             probes,
         },
     }
@@ -223,7 +231,7 @@ fn run_with<'a>(
 ) -> Command<'a>
     ensures { command_view result ≡ spelled_run design.now board.now stimulus.now
         (name_given plan_setting settings.now) (workers_given settings.now)
-        (unknown_given settings.now) (probes_given settings.now) }
+        (unknown_given settings.now) (until_given settings.now) (probes_given settings.now) }
 {
     let words = RunWords {
         design,
@@ -231,6 +239,7 @@ fn run_with<'a>(
         stimulus,
         plan: PLAN.name(settings),
         unknown: UNKNOWN.bit(settings, false),
+        until: UNTIL.name(settings),
         probes: PROBE.names(settings),
     };
     match several_in(settings) {
@@ -265,6 +274,7 @@ fn save_of(words: &[Name]) -> Option<Command<'_>>
                 workers: workers_in(settings),
                 unknown: UNKNOWN.bit(settings, false),
                 every: every_in(settings),
+                until: UNTIL.name(settings),
             }))
         }
         _ => None,
@@ -284,6 +294,7 @@ fn resume_of(words: &[Name]) -> Option<Command<'_>>
                 stimulus,
                 plan: PLAN.name(settings),
                 workers: workers_in(settings),
+                until: UNTIL.name(settings),
                 probes: PROBE.names(settings),
             }))
         }

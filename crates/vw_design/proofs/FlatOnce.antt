@@ -63,7 +63,7 @@ flat_same one other inputs cells outputs = λ i. record {
   outputs = outputs i;
   few_inputs = is_prop→PathP (λ j. inputs j ≤ 4096) (λ j. le_prop) one.few_inputs other.few_inputs i;
   few_cells = is_prop→PathP (λ j. length (cells j) ≤ 65536) (λ j. le_prop) one.few_cells other.few_cells i;
-  few_outputs = is_prop→PathP (λ j. length (outputs j) ≤ 4160) (λ j. le_prop) one.few_outputs other.few_outputs i;
+  few_outputs = is_prop→PathP (λ j. length (outputs j) ≤ 4161) (λ j. le_prop) one.few_outputs other.few_outputs i;
   cells_fit = is_prop→PathP (λ j. All (IsWellFormed (inputs j + length (cells j))) (cells j)) (λ j. hlevel (le_prop, ℕ_set)) one.cells_fit other.cells_fit i;
   outputs_fit = is_prop→PathP (λ j. All (λ net. net < inputs j + length (cells j)) (outputs j)) (λ j. hlevel le_prop) one.outputs_fit other.outputs_fit i;
 }

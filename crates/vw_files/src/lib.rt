@@ -10,5 +10,5 @@ mod ready;
 
 pub use board_files::{BoardFiles, PlanBy};
 pub use files::{check_rows, read_design, read_given_state, read_named_design, read_state};
-pub use probes::Probes;
+pub use probes::{Probes, Watched};
 pub use ready::{ready_board, ready_on_board};

@@ -137,7 +137,7 @@ module _ (design : Design) (accepted : IsAccepted design) where
   }
 
   -- the netlist
-  pub flat_of : (probes : List Word) (nets : List Net) → FindAll design probes nets → length probes ≤ 64 → (flat : Flat) × IsFlatOf design nets flat
+  pub flat_of : (probes : List Word) (nets : List Net) → FindAll design probes nets → length probes ≤ 65 → (flat : Flat) × IsFlatOf design nets flat
   flat_of probes nets found few =
       let gates_and_latches = cells_of (cells design) (λ site has. has) in
       let own = numbers_of (root_outputs design) (λ net has. Has-right net (flat_map (λ (s : Site). nets_at s (data_of s.item)) (sites design)) (root_outputs design) has) in

@@ -7,10 +7,10 @@ ghost use Rattle.vw_design.specs.Flattened.{IsFlatOf};
 ghost use Rattle.vw_design.specs.Paths.{Net, Word};
 ghost use Rattle.vw_design.specs.Probes.{Finds, FindAll, IsFirstWithoutNet};
 
-/// An accepted design has a flat netlist with the nets that 64 probes find at most, whether its gates have loops or not.
+/// An accepted design has a flat netlist with the nets that 65 probes find at most, whether its gates have loops or not.
 pub fn accepted_designs_have_netlists()
     ensures { (design : Design) → IsAccepted design → (probes : List Word) (nets : List Net)
-        → FindAll design probes nets → length probes ≤ 64 → (flat : Flat) × IsFlatOf design nets flat }
+        → FindAll design probes nets → length probes ≤ 65 → (flat : Flat) × IsFlatOf design nets flat }
 {}
 
 /// In an accepted design a probe finds one net at most, and probes find one list of nets.

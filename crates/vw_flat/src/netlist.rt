@@ -80,7 +80,7 @@ fn probe_numbers(
 /// or watched has the number of its driver. Its history is that of the design by its paths, from every start value and over
 /// all rows, whether it has loops or not. A probe that finds no net is named, the first one of them.
 pub fn flatten(alloc: Global, elaborated: &Elaborated, probes: &[Name]) -> Result<Flat, FlatFault>
-    requires { length probes.now ≤ 64 }
+    requires { length probes.now ≤ 65 }
     ensures flat { IfOk result (IsProbedFlat elaborated.now probes.now) }
     ensures history { IfOk result (λ flat. (nets : List Net) → FindAll elaborated.now probes.now nets
         → (unknown : Bool) (rows : List (List Bool))

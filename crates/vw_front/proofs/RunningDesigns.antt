@@ -30,7 +30,7 @@ order_or_loop design watched flat is = ⊎_elim
     (order_or_circle (gates flat) (within flat))
 
 -- where the design has no loop there is an order
-pub netlist_of : (probes : List Word) (text : List ℕ) → Runs probes text → length probes ≤ 64 → (ordered : Ordered) × IsNetlistOf probes text ordered
+pub netlist_of : (probes : List Word) (text : List ℕ) → Runs probes text → length probes ≤ 65 → (ordered : Ordered) × IsNetlistOf probes text ordered
 netlist_of probes text (watched, is) few =
     let flat = flat_of watched.design is.design_of.accepted probes watched.nets is.found few in
     ⊎_elim
@@ -39,7 +39,7 @@ netlist_of probes text (watched, is) few =
     (order_or_loop watched.design watched.nets flat.0 flat.1)
 
 -- and the netlist can be given the names of its nets
-pub named_netlist_of : (probes : List Word) (text : List ℕ) → Runs probes text → length probes ≤ 64 → (named : NamedNetlist) × IsNamedNetlistOf probes text named
+pub named_netlist_of : (probes : List Word) (text : List ℕ) → Runs probes text → length probes ≤ 65 → (named : NamedNetlist) × IsNamedNetlistOf probes text named
 named_netlist_of probes text runs few =
     let made = netlist_of probes text runs few in
     let ordered = made.0 in

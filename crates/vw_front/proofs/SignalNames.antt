@@ -68,14 +68,14 @@ module _ (probes : List Word) (text : List ℕ) (netlist : NamedNetlist) (is : I
       ∙ drop-append_seam (columns of) (map printed_site (cells of))
 
   -- the names that are gathered are those of the signals
-  pub signals_are : netlist.outputs ++ (probes ++ latch_names made driven) ≡ signal_names probes of
-  signals_are =
-      ap₂ (λ (outputs names : List Word). outputs ++ (probes ++ names)) is.outputs
+  pub signals_are : (shown : List Word) → netlist.outputs ++ (shown ++ latch_names made driven) ≡ signal_names shown of
+  signals_are shown =
+      ap₂ (λ (outputs names : List Word). outputs ++ (shown ++ names)) is.outputs
       (ap (latch_names made) driven_are ∙ named of (cells of) made is.flat.cells ∙ ap (map printed_site) (latches_of_cells of))
 
-  -- there are as many as outputs and latches
-  pub signals_counted : length (netlist.outputs ++ (probes ++ latch_names made driven)) ≡ length netlist.ordered.flat.outputs + latch_count made
-  signals_counted =
+  -- there are as many as outputs and latches, but for the watched nets that aren't shown
+  pub signals_counted : (these : List Word) → length (netlist.outputs ++ (these ++ latch_names made driven)) + length probes ≡ length netlist.ordered.flat.outputs + length these + latch_count made
+  signals_counted these =
       let nets = is.watched.nets in
       let flat = netlist.ordered.flat in
       let shown : length (shown_nets of nets) ≡ length flat.outputs =
@@ -85,6 +85,6 @@ module _ (probes : List Word) (text : List ℕ) (netlist : NamedNetlist) (is : I
       let outputs = ap (λ (list : List Word). length list) is.outputs ∙ length-map (root_outputs of) printed in
       let names = ap (λ (list : List Word). length list) driven_are ∙ length-map (cells of) printed_site ∙ AllZip-length (λ (site : Site) (cell : Cell). IsCellOf of site.path site.item cell) (cells of) made is.flat.cells in
       let latches = counted made driven names in
-      let whole = length-append netlist.outputs (probes ++ latch_names made driven) in
-      let rest = length-append probes (latch_names made driven) in
+      let whole = length-append netlist.outputs (these ++ latch_names made driven) in
+      let rest = length-append these (latch_names made driven) in
       omega (arith, shown, both, found, outputs, latches, whole, rest)

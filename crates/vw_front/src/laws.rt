@@ -9,16 +9,16 @@ ghost use Rattle.vw_front.specs.declared.named.NamedNetlist.{NamedNetlist};
 ghost use Rattle.vw_front.specs.Designs.{Runs, IsNetlistOf, IsLoopOf};
 ghost use Rattle.vw_front.specs.NamedNetlists.{IsNamedNetlistOf};
 
-/// A text with a design that runs, in which each of 64 probes at most finds a net, has a netlist of that design with these
+/// A text with a design that runs, in which each of 65 probes at most finds a net, has a netlist of that design with these
 /// nets, with an order of its gates.
 pub fn running_designs_have_netlists()
-    ensures { (probes : List Word) (text : List ℕ) → Runs probes text → length probes ≤ 64
+    ensures { (probes : List Word) (text : List ℕ) → Runs probes text → length probes ≤ 65
         → (ordered : Ordered) × IsNetlistOf probes text ordered }
 {}
 
 /// Such a text has such a netlist with the names of its nets, too.
 pub fn running_designs_have_named_netlists()
-    ensures { (probes : List Word) (text : List ℕ) → Runs probes text → length probes ≤ 64
+    ensures { (probes : List Word) (text : List ℕ) → Runs probes text → length probes ≤ 65
         → (named : NamedNetlist) × IsNamedNetlistOf probes text named }
 {}
 

@@ -94,7 +94,7 @@ fn loop_fault(
 
 /// The netlist of a design with the nets that probes find.
 fn flat_of(alloc: Global, elaborated: &Elaborated, probes: &[Name]) -> Result<Flat, NetlistFault>
-    requires { length probes.now ≤ 64 }
+    requires { length probes.now ≤ 65 }
     ensures { Judges (IsProbedFlat elaborated.now probes.now) (RefusesProbe probes.now elaborated.now)
         result }
 {
@@ -125,7 +125,7 @@ fn ordered_of(
     elaborated: &Elaborated,
     probes: &[Name],
 ) -> Result<Ordered, NetlistFault>
-    requires { length probes.now ≤ 64 }
+    requires { length probes.now ≤ 65 }
     ensures { Judges (IsOrderedOf probes.now elaborated.now)
         (RefusesNetlist probes.now elaborated.now) result }
 {
@@ -157,7 +157,7 @@ fn named_of(
     elaborated: &Elaborated,
     probes: &[Name],
 ) -> Result<NamedNetlist, NetlistFault>
-    requires { length probes.now ≤ 64 }
+    requires { length probes.now ≤ 65 }
     ensures { Judges (IsNamedOf probes.now elaborated.now)
         (RefusesNetlist probes.now elaborated.now) result }
 {
@@ -171,7 +171,7 @@ fn named_of(
 /// The netlist of the design that a text spells, with an order of its gates. Its outputs are those of the design, and behind
 /// them the nets that the probes find.
 pub fn netlist_of_text(alloc: Global, text: &[u8], probes: &[Name]) -> Result<Ordered, NetlistFault>
-    requires { length probes.now ≤ 64 }
+    requires { length probes.now ≤ 65 }
     ensures { Judges (IsNetlistOf probes.now text.now) (RefusesDesign probes.now text.now) result }
 {
     let elaborated = elaborated_of_text(alloc, text)?;
@@ -187,7 +187,7 @@ pub fn named_netlist_of_text(
     text: &[u8],
     probes: &[Name],
 ) -> Result<NamedNetlist, NetlistFault>
-    requires { length probes.now ≤ 64 }
+    requires { length probes.now ≤ 65 }
     ensures { Judges (IsNamedNetlistOf probes.now text.now) (RefusesDesign probes.now text.now)
         result }
 {

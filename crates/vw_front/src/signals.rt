@@ -1,6 +1,7 @@
 //! The names of the signals of a wave.
 ghost use Rattle.std.specs.Prelude.{◌≡◌, ◌+◌, ◌++◌, ℕ, List, drop, length, IfOk, OnOk};
 ghost use Rattle.vw_net.specs.Cells.{latch_count};
+ghost use Rattle.vw_design.specs.Paths.{Word};
 ghost use Rattle.vw_front.specs.Names.{signal_names};
 ghost use Rattle.vw_front.specs.NamedNetlists.{IsNamedNetlistOf};
 ghost use Rattle.vw_front.specs.Steps.LatchNames.{latch_names};
@@ -39,15 +40,15 @@ impl NamedNetlist {
     }
 
     /// The names of the signals of a wave in which these probes are shown: the outputs of the root, then the probes, then
-    /// the nets that the latches drive, in the order of the cells. There is one for each output of the netlist and one for
-    /// each latch.
+    /// the nets that the latches drive, in the order of the cells. Where all nets that are watched are shown, there is one for each
+    /// output of the netlist and one for each latch.
     pub fn signals(&self, alloc: Global, probes: &[Name]) -> Result<Vec<Name>, AllocError>
         ensures names { IfOk result (λ names.
-            (text : List ℕ) (is : IsNamedNetlistOf probes.now text self.now)
+            (watched : List Word) (text : List ℕ) (is : IsNamedNetlistOf watched text self.now)
             → names.items ≡ signal_names probes.now is.watched.design) }
         ensures count { IfOk result (λ names.
-            (text : List ℕ) → IsNamedNetlistOf probes.now text self.now
-            → length names.items ≡ length self.now.ordered.flat.outputs
+            (watched : List Word) (text : List ℕ) → IsNamedNetlistOf watched text self.now
+            → length names.items + length watched ≡ length self.now.ordered.flat.outputs + length probes.now
             + latch_count self.now.ordered.flat.cells) }
     {
         let mut names = Vec::new(alloc);

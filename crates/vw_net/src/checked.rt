@@ -48,7 +48,7 @@ fn are_even(rows: &[Row], inputs: usize) -> bool
 }
 
 impl Flat {
-    /// The netlist of these parts; nothing where there are more than 4,096 inputs, 65,536 cells or 4,160 outputs, where a
+    /// The netlist of these parts; nothing where there are more than 4,096 inputs, 65,536 cells or 4,161 outputs, where a
     /// gate reads another number of nets than its table has inputs, or where a cell or an output names a net that there
     /// isn't. It takes no memory, and goes over the parts once.
     pub fn checked(inputs: u32, cells: Sequence<Cell>, outputs: Sequence<u32>) -> Option<Self>

@@ -14,7 +14,7 @@ pub struct Flat {
     pub inputs: u32,
     /// At most 65,536 cells.
     pub cells: Sequence<Cell>,
-    /// The nets whose values are the outputs, at most 4,160: the 4,096 of a design at most, and 64 further ones.
+    /// The nets whose values are the outputs, at most 4,161: the 4,096 of a design at most, and 65 further ones.
     pub outputs: Sequence<u32>,
     ghost few_inputs: { inputs ≤ MOST_INPUTS },
     ghost few_cells: { length cells ≤ MOST_CELLS },

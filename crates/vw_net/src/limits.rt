@@ -9,8 +9,8 @@ pub const MOST_CELLS: u32 = 65_536;
 /// The most outputs of a design.
 pub const MOST_DESIGN_OUTPUTS: u32 = 4_096;
 
-/// The most outputs of a netlist: those of a design, and 64 further ones.
-pub const MOST_OUTPUTS: u32 = 4_160;
+/// The most outputs of a netlist: those of a design, and 65 nets that are watched: 64 probes and a trigger.
+pub const MOST_OUTPUTS: u32 = 4_161;
 
 /// The most inputs of a table.
 pub const MOST_TABLE_INPUTS: u32 = 128;

@@ -149,12 +149,12 @@ fn fit(alloc: Global, inputs: u32, net: u32, output: u32, times: usize) -> Resul
 /// How many inputs there are, the net that the gate reads, the output, how many times it stands, and whether all fit.
 const PARTS: &[(u32, u32, u32, usize, bool)] = &[
     (1, 2, 2, 1, true),
-    (4096, 4097, 4097, 4160, true),
+    (4096, 4097, 4097, 4161, true),
     (4097, 0, 0, 1, false),
     (0, 2, 0, 1, false),
     (1, 3, 0, 1, false),
     (1, 0, 3, 1, false),
-    (1, 0, 0, 4161, false),
+    (1, 0, 0, 4162, false),
 ];
 
 /// Asserts whether the parts of each line fit.

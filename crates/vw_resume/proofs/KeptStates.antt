@@ -10,7 +10,8 @@ use Rattle.vw_net.specs.Cells.{start_values}
 use Rattle.vw_net.specs.History.{History, flat_history, next_state, state_after, states_of}
 use Rattle.vw_net.proofs.Counts.{length-states_of}
 use Rattle.vw_net.proofs.Histories.{state_after-append}
-use Rattle.vw_resume.specs.Saved.{saved_text, kept_texts}
+use Rattle.vw_trace.specs.Triggers.{shown_history}
+use Rattle.vw_resume.specs.Saved.{counted_from_start, saved_text, kept_texts}
 use Rattle.vw_resume.specs.States.{state_text}
 use Rattle.vw_resume.specs.Steps.Kept.{kept_text, kept_before, kept_from}
 
@@ -100,3 +101,9 @@ module _ (every : ℕ) (unknown : Bool) (flat : Flat) (all : List (List Bool)) w
       let last : state_text (0 + length states) (state_after flat start all) ≡ flat_map text (length all ∷ []) =
       ap (λ (n : ℕ). state_text n (state_after flat start all)) count ∙ ap (λ (rows : List (List Bool)). saved_text unknown flat rows) (sym (take_all (length all) all (omega arith))) ∙ sym (append-nil (text (length all))) in
       ap₂ (λ (one other : List ℕ). one ++ other) (kept_before_all all refl) last ∙ sym (flat_map-append text (filter is_multiple (range_with_len 1 (length all - 1))) (length all ∷ []))
+
+-- with a trigger, too: it isn't among the states
+pub kept_shown : (until : Bool) (every : ℕ) (unknown : Bool) (flat : Flat) (rows : List (List Bool)) → let start = start_values unknown flat.cells in
+    kept_from every 0 (shown_history until flat start rows) ≡ kept_texts every (saved_text unknown flat) (counted_from_start until unknown flat rows)
+kept_shown false every unknown flat rows = kept_is every unknown flat rows
+kept_shown true every unknown flat rows = kept_is every unknown flat (counted_from_start true unknown flat rows)

@@ -1,5 +1,5 @@
 -- Rows that are passed over before a text is written over the others.
-use Rattle.std.proofs.Common.{◌≡◌, ◌≢◌, ◌≤◌, ◌+◌, ◌-◌, ◌∙◌, ℕ, Bool, false, List, [], ◌++◌, length, drop, take, replicate, Result, Ok, Err, refl, sym, ap, ap₂, subst, length-append, arith}
+use Rattle.std.proofs.Common.{◌≡◌, ◌≢◌, ◌≤◌, ◌+◌, ◌-◌, ◌∙◌, ℕ, Bool, false, List, ◌++◌, length, drop, replicate, Result, Ok, Err, refl, sym, ap, ap₂, subst, length-append, arith}
 use Rattle.std.specs.Prelude.{OnOk}
 use Rattle.std.specs.List.{All}
 use Rattle.std.proofs.lemmas.List.{drop_at, drop-drop, length-drop, length-replicate}
@@ -89,7 +89,6 @@ module _ {S : Type 0} {shelf : shelves.Ghosts S} (Text : List (List Bool) → Li
         are = some.are;
         ends = ends_unread before.stimulus.now.name (Text some.whole) (seen_shelf before) out (seen_shelf after) out fault (0, omega arith, sym (appended-nil out)) counts kept sure;
         count = tt;
-        given = tt;
         meanwhile = (0, tt);
       }
 
@@ -112,15 +111,11 @@ module _ {S : Type 0} {shelf : shelves.Ghosts S} (Text : List (List Bool) → Li
             (subst (λ (s : SeenShelf). EndsStreaming old.name (Text streams.rows) s out (seen_shelf after) out_after answer) kept
             (subst (λ (name : List ℕ). EndsStreaming name (Text streams.rows) (seen_shelf between) out (seen_shelf after) out_after answer) gave.name streams.ends));
         count = counted answer streams.count (λ is. all.counted (is ∙ left));
-        given = given answer streams.given;
         meanwhile = done all.whole answer;
       } where
         counted : {P Q : Type 0} (its : Result (Unit {0}) RunFault) → OnOk its P → (P → Q) → OnOk its Q
         counted (Ok one) is so = so is
         counted (Err fault) is so = tt
-
-        given : (its : Result (Unit {0}) RunFault) → OnOk its (after.stimulus.now.done ≡ between.stimulus.now.clocks) → OnOk its (after.stimulus.now.done ≡ before.stimulus.now.clocks)
-        given its is = counted its is (λ so. so ∙ gave.clocks)
 
         done : (rows : List (List Bool)) (its : Result (Unit {0}) RunFault) → DoneFor (λ these. Unit {0}) rows its
         done rows (Ok one) = tt

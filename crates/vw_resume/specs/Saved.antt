@@ -4,11 +4,16 @@ use Rattle.std.specs.List.{filter, flat_map, range_with_len}
 use Rattle.vw_net.specs.declared.flat.Flat.{Flat}
 use Rattle.vw_net.specs.Cells.{start_values}
 use Rattle.vw_net.specs.History.{state_after}
+use Rattle.vw_trace.specs.Triggers.{counted}
 use Rattle.vw_resume.specs.States.{state_text}
 
 -- the state of a netlist after some rows, from the start values on, where free latches start at `unknown`
 abbrev pub saved_text : Bool → Flat → List (List Bool) → List ℕ
 saved_text unknown flat rows = state_text (length rows) (state_after flat (start_values unknown flat.cells) rows)
+
+-- of some rows those that count, from these start values on, where with `until` the last output is a trigger
+abbrev pub counted_from_start : Bool → Bool → Flat → List (List Bool) → List (List Bool)
+counted_from_start until unknown flat = counted until flat (start_values unknown flat.cells)
 
 -- ---- on the way
 

@@ -65,19 +65,19 @@ fn kept_states(alloc: Global, every: u64, first: u64, states: &Rows) -> Result<V
 }
 
 impl KeepingRecorder {
-    /// What writes down the states of a netlist from clock 0 on, behind each `every` clocks and behind the last. These are the
-    /// latch values before it.
-    pub fn make(flat: &Flat, start: &Bits, every: u64) -> Self
+    /// What writes down the states of a netlist from clock 0 on, with so many outputs in each, behind each `every` clocks and
+    /// behind the last. These are the latch values before it.
+    pub fn make(flat: &Flat, outputs: usize, start: &Bits, every: u64) -> Self
         requires some { 0 < every }
         requires latches { length start.now ≡ latch_count flat.now.cells }
         ensures clocks { result.clocks ≡ 0 }
-        ensures outputs { result.outputs ≡ length flat.now.outputs }
+        ensures outputs { result.outputs ≡ outputs }
         ensures latches { result.latches ≡ latch_count flat.now.cells }
         ensures every { result.every ≡ every }
     {
         KeepingRecorder {
             clocks: 0,
-            outputs: flat.outputs().len(),
+            outputs,
             latches: start.len(),
             every,
         }

@@ -20,7 +20,7 @@ pub use laws::{
 };
 pub use limits::LONGEST_STATE;
 pub use replaying::{replay_trace, replay_wave};
-pub use resuming::{run_from, run_watched_from};
+pub use resuming::run_watched_from;
 pub use saving::{save, save_every};
 pub use state::State;
 pub use vw_trace::RunFault as ResumeFault;

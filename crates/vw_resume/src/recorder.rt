@@ -19,16 +19,17 @@ pub struct StateRecorder {
 }
 
 impl StateRecorder {
-    /// What writes down the state behind the clocks of a netlist from clock 0 on. These are the latch values before it.
-    pub fn make(flat: &Flat, start: &Bits) -> Self
+    /// What writes down the state behind the clocks of a netlist from clock 0 on, with so many outputs in each. These are
+    /// the latch values before it.
+    pub fn make(flat: &Flat, outputs: usize, start: &Bits) -> Self
         requires { length start.now ≡ latch_count flat.now.cells }
         ensures clocks { result.clocks ≡ 0 }
-        ensures outputs { result.outputs ≡ length flat.now.outputs }
+        ensures outputs { result.outputs ≡ outputs }
         ensures latches { result.latches ≡ latch_count flat.now.cells }
     {
         StateRecorder {
             clocks: 0,
-            outputs: flat.outputs().len(),
+            outputs,
             latches: start.len(),
         }
     }

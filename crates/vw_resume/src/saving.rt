@@ -3,8 +3,9 @@ ghost use Rattle.std.specs.Prelude.{◌≡◌, ◌<◌};
 ghost use Rattle.vw_net.specs.Cells.{start_values};
 ghost use Rattle.vw_plan.specs.PlannedBoard.{planned_board};
 ghost use Rattle.vw_trace.specs.Streamed.{StopsSilently, Streams};
+ghost use Rattle.vw_trace.specs.Triggers.{worked};
 ghost use Rattle.vw_batches.specs.Traffic.{HaveCarried};
-ghost use Rattle.vw_resume.specs.Saved.{kept_texts, saved_text};
+ghost use Rattle.vw_resume.specs.Saved.{counted_from_start, kept_texts, saved_text};
 
 use crate::keeping::KeepingRecorder;
 use crate::recorder::StateRecorder;
@@ -17,10 +18,11 @@ use vw_outside::{BurstGate, Shelf, Sink};
 use vw_plan::Checked;
 use vw_prog::Fabric;
 use vw_rows::Rereading;
-use vw_trace::{Engine, RunFault};
+use vw_trace::{Engine, RunFault, shown_count};
 
 /// Runs a planned design on its board over all rows that a stimulus still gives, with the workers of a floor, and appends
-/// the text of the state after the last clock, and nothing else. Free latches start at `unknown`.
+/// the text of the state after the last clock, and nothing else. With `until` the last output of the netlist is a trigger: the
+/// last clock is the first in which it is 1, and no batch behind it is read. Free latches start at `unknown`.
 ///
 /// As in any run, memory is taken for a batch of 256 clocks at a time, each link carries the words of the plan, where there
 /// are two workers or more, and it isn't proved that the call returns. No line of a trace is made. Where the rows can't be
@@ -30,6 +32,7 @@ use vw_trace::{Engine, RunFault};
 pub fn save<T: Threads + Wait + Sync, F: Fabric, G: BurstGate, S: Shelf, O: Sink>(
     alloc: Global,
     checked: Checked,
+    until: bool,
     unknown: bool,
     floor: &mut Floor<'_, '_, '_, T, F, G>,
     rows: &mut Rereading<'_, '_, S>,
@@ -39,26 +42,31 @@ pub fn save<T: Threads + Wait + Sync, F: Fabric, G: BurstGate, S: Shelf, O: Sink
     ensures shelf { rows.new.shelf.ghost_name ≡ rows.old.shelf.ghost_name }
     ensures fabric { floor.new.fabric.ghost_name ≡ floor.old.fabric.ghost_name }
     ensures streams { let planned = planned_board checked.ordered checked.board checked.plan in
-        Streams (saved_text unknown checked.ordered.flat)
-        (HaveCarried floor.old.workers planned 0 (start_values unknown checked.ordered.flat.cells)
-        (F.carried floor.old.fabric.now) (F.carried floor.new.fabric.now))
+        Streams (λ these. saved_text unknown checked.ordered.flat
+        (counted_from_start until unknown checked.ordered.flat these))
+        (λ these. let start = start_values unknown checked.ordered.flat.cells in
+        HaveCarried floor.old.workers planned 0 start
+        (F.carried floor.old.fabric.now) (F.carried floor.new.fabric.now)
+        (worked until checked.ordered.flat start these))
         rows.old rows.new (O.seen out.old) (O.seen out.new) result }
     ensures silent { StopsSilently (O.seen out.old) (O.seen out.new) result }
 {
     let mut board = RunningBoard::start(alloc, checked, unknown)?;
-    let mut recorder = StateRecorder::make(board.flat(), board.state());
-    go_on(alloc, &mut board, floor, rows, &mut recorder, out)
+    let outputs = shown_count(until, board.flat().outputs().len());
+    let mut recorder = StateRecorder::make(board.flat(), outputs, board.state());
+    go_on(alloc, &mut board, floor, rows, until, &mut recorder, out)
 }
 
 /// Runs a planned design on its board over all rows that a stimulus still gives, with the workers of a floor, and appends
 /// the text of the state behind each `every` clocks, and behind the last clock where none is appended there so. Each is what
-/// `save` appends of so many first rows. Free latches start at `unknown`.
+/// `save` appends of so many first rows. The last clock is that of `save`, too. Free latches start at `unknown`.
 ///
 /// All else is as in `save`, but that texts are written on the way: where the rows can't be read again, or a write fails or
 /// memory runs out, a front of them was appended.
 pub fn save_every<T: Threads + Wait + Sync, F: Fabric, G: BurstGate, S: Shelf, O: Sink>(
     alloc: Global,
     checked: Checked,
+    until: bool,
     unknown: bool,
     every: u64,
     floor: &mut Floor<'_, '_, '_, T, F, G>,
@@ -70,12 +78,16 @@ pub fn save_every<T: Threads + Wait + Sync, F: Fabric, G: BurstGate, S: Shelf, O
     ensures shelf { rows.new.shelf.ghost_name ≡ rows.old.shelf.ghost_name }
     ensures fabric { floor.new.fabric.ghost_name ≡ floor.old.fabric.ghost_name }
     ensures streams { let planned = planned_board checked.ordered checked.board checked.plan in
-        Streams (kept_texts every (saved_text unknown checked.ordered.flat))
-        (HaveCarried floor.old.workers planned 0 (start_values unknown checked.ordered.flat.cells)
-        (F.carried floor.old.fabric.now) (F.carried floor.new.fabric.now))
+        Streams (λ these. kept_texts every (saved_text unknown checked.ordered.flat)
+        (counted_from_start until unknown checked.ordered.flat these))
+        (λ these. let start = start_values unknown checked.ordered.flat.cells in
+        HaveCarried floor.old.workers planned 0 start
+        (F.carried floor.old.fabric.now) (F.carried floor.new.fabric.now)
+        (worked until checked.ordered.flat start these))
         rows.old rows.new (O.seen out.old) (O.seen out.new) result }
 {
     let mut board = RunningBoard::start(alloc, checked, unknown)?;
-    let mut recorder = KeepingRecorder::make(board.flat(), board.state(), every);
-    go_on(alloc, &mut board, floor, rows, &mut recorder, out)
+    let outputs = shown_count(until, board.flat().outputs().len());
+    let mut recorder = KeepingRecorder::make(board.flat(), outputs, board.state(), every);
+    go_on(alloc, &mut board, floor, rows, until, &mut recorder, out)
 }

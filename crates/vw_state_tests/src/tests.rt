@@ -13,8 +13,10 @@ use vw_samples::{TOGGLE, TOGGLE_PLAN, TRIANGLE, spelled};
 
 mod cuts;
 mod kept;
+mod replays;
 mod rows;
 mod stops;
+mod triggers;
 
 /// The state of the toggle after one clock with a one, and what it does from there on over `LATER`.
 const STATE: &str = "state 1 1 1 1\n";

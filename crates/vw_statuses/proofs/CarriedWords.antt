@@ -14,13 +14,13 @@ use Rattle.vw_courses.specs.Commands.{TextOver, Scripts, board_scripts}
 use Rattle.vw_statuses.specs.TracedStatuses.{designs, IsTrace}
 use Rattle.vw_statuses.specs.LinkTraffic.{UsesBoard, CarriesAll}
 
-module _ (probes : List ProbeWord) (text : TextOver WatchedDesign) (design : List ℕ) (call : Call) (workers : ℕ) (unknown : Bool) (d s : List ℕ) (May Is : Ordered → Board → Plan → Type 0)
+module _ (probes : List ProbeWord) (text : TextOver WatchedDesign) (design : List ℕ) (call : Call) (until : Bool) (workers : ℕ) (unknown : Bool) (d s : List ℕ) (May Is : Ordered → Board → Plan → Type 0)
     (also : (ordered : Ordered) (board : Board) (plan : Plan) → May ordered board plan → Is ordered board plan) where
-  pub carries_all : IsDone (IsTrace (designs probes design) text d s (UsesBoard workers unknown May)) call → CarriesAll probes workers unknown d s Is call
+  pub carries_all : IsDone (IsTrace (designs probes design) text d s (UsesBoard until workers unknown May)) call → CarriesAll probes until workers unknown d s Is call
   carries_all done =
       let trace = done.is in
       let uses = trace.uses in
-      let words : done.did.scripts ≡ board_scripts workers unknown (planned_board uses.ordered uses.board uses.plan) trace.rows =
+      let words : done.did.scripts ≡ board_scripts until workers unknown (planned_board uses.ordered uses.board uses.plan) trace.rows =
       ap (λ (w : CallWork). w.scripts) trace.is ∙ ap (λ (scripts : Scripts). scripts trace.rows) uses.are in
       record {
         spelled = trace.its;

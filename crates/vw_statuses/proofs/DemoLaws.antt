@@ -1,5 +1,5 @@
 -- What the statuses of `demo` say, from those of the run that it is.
-use Rattle.std.proofs.Common.{◌≡◌, ◌⊎◌, ⊎_elim, ◌<◌, ℕ, List, false, [], ◌∷◌, Ok, Err, refl, sym, ◌∙◌, ap, subst, inl, inr, arith}
+use Rattle.std.proofs.Common.{◌≡◌, ◌⊎◌, ⊎_elim, ◌<◌, ℕ, List, None, false, [], ◌∷◌, Ok, Err, refl, sym, ◌∙◌, ap, subst, inl, inr, arith}
 use Rattle.std.specs.Prelude.{◌≢◌, unwrap_or}
 use Rattle.vw_outside.specs.Told.{held}
 use Rattle.vw_outside.specs.Writes.{SeenSink, appended, seen_bytes, WrotePart, FailedAfterPart}
@@ -37,8 +37,8 @@ module _ (cells workers : ℕ) (call : Call) where
   inside = texts_before vocabulary (generated cells) (summary cells) (λ name. 0) (seen_bytes [] 0) call.before call.after
 
   module _ (run : Call) (is_run : IsCallOf (demo_run workers) run) (before_is : run.before ≡ inside) where
-    run_statuses : RunStatuses [] (trace_of false) design_name board_name made_here stimulus_name workers false run
-    run_statuses = run_table [] (trace_of false) (netlist_trace 0 false) (traces_agree [] false) design_name board_name made_here stimulus_name workers false run (omega arith) is_run
+    run_statuses : RunStatuses [] (trace_of false) design_name board_name made_here stimulus_name false workers false run
+    run_statuses = run_table [] (trace_of false) (netlist_trace 0 false) (traces_agree [] false) design_name board_name made_here stimulus_name false workers false run (omega arith) is_run
 
     held_there : (name : List ℕ) → run.before.shelf.told name ≡ held (generated cells name)
     held_there name = ap (λ (o : SeenOutside vocabulary.Word). o.shelf.told name) before_is
@@ -51,7 +51,7 @@ module _ (cells workers : ℕ) (call : Call) where
       statuses = run_statuses;
     }
 
-    on_links_by : run.status ≡ 0 → CarriesAll [] workers false (design_text cells) (stimulus_text cells) (AreSpelled [] made_here (demo_texts cells)) run
+    on_links_by : run.status ≡ 0 → CarriesAll [] false workers false (design_text cells) (stimulus_text cells) (AreSpelled [] made_here (demo_texts cells)) run
     on_links_by status = run_statuses.on_links (demo_texts cells) (stimulus_text cells) (record { design_held = held_there design_name; board_held = held_there board_name; plan_held = tt }) (held_there stimulus_name) status
 
   -- the run that ends so, and what stands at err before it and after it
@@ -64,7 +64,7 @@ module _ (cells workers : ℕ) (call : Call) where
   summary_of work follows Is is =
       let run = run_to (with_all work inside) call.err_before 0 in
       let is_run : IsCallOf (demo_run workers) run = record { answer = Ok tt; follows = follows; ends = (refl, refl) } in
-      let trace = headline [] design_name board_name made_here stimulus_name workers false run is_run (design_text cells) (stimulus_text cells) refl refl refl in
+      let trace = headline [] None design_name board_name made_here stimulus_name workers false run is_run (design_text cells) (stimulus_text cells) refl refl refl in
       record {
         spelled = trace.spelled;
         rows = trace.rows;
@@ -74,11 +74,11 @@ module _ (cells workers : ℕ) (call : Call) where
       }
 
   -- where the texts are accepted, the run ends with one of these statuses
-  run_ends : (run : Call) → RunStatuses [] (trace_of false) design_name board_name made_here stimulus_name workers false run
+  run_ends : (run : Call) → RunStatuses [] (trace_of false) design_name board_name made_here stimulus_name false workers false run
       → ((name : List ℕ) → run.before.shelf.told name ≡ held (generated cells name))
       → AreAccepted cells → (run.status ≡ 0) ⊎ ((run.status ≡ 7) ⊎ ((run.status ≡ 8) ⊎ (run.status ≡ 9)))
   run_ends run statuses there all =
-      let ready : IsReady [] (trace_of false) design_name board_name made_here stimulus_name workers false run (design_text cells) (stimulus_text cells) = record {
+      let ready : IsReady [] (trace_of false) design_name board_name made_here stimulus_name false workers false run (design_text cells) (stimulus_text cells) = record {
         texts = demo_texts cells;
         design_is = refl;
         planned_held = record { design_held = there design_name; board_held = there board_name; plan_held = tt };
@@ -112,7 +112,7 @@ module _ (cells workers : ℕ) (call : Call) where
   Wrote Leaves = HasSummary cells (λ text. Leaves text call.before.out call.after.out)
 
   abbrev Links : Call → Type 0
-  Links run = CarriesAll [] workers false (design_text cells) (stimulus_text cells) (AreSpelled [] made_here (demo_texts cells)) run
+  Links run = CarriesAll [] false workers false (design_text cells) (stimulus_text cells) (AreSpelled [] made_here (demo_texts cells)) run
 
   -- the demo has the statuses of its run, but for 8
   comes_by : (run : Call) → HasStatus (1 ∷ 3 ∷ 6 ∷ 5 ∷ []) run → Ended run → HasStatus (1 ∷ 3 ∷ 6 ∷ 5 ∷ []) call

@@ -18,6 +18,7 @@ pub mod ResumeLaws
 pub mod RunLaws
 pub mod SimLaws
 pub mod TracedLaws
+pub mod TriggerLaws
 pub mod UnusedLinks
 pub mod UsageLaws
 pub mod WaveLaws

@@ -354,7 +354,7 @@ module _ (probes : List Word) (design board : List ℕ) (by : PlanBy) (call : Ca
         (two_openings probes design board by call all (inl refl) (inr (inl refl)) (given_among by (kinds.Design, design) (kinds.Board, board) [])).comes P (texts.design, texts.board) (hold.design_held, hold.board_held)
         (some, λ ordered netlist. (on, spells)) (λ x. plan_then by x.0 x.1 (rest x.0 x.1)) (λ x are. there x.0 x.1 (record { netlist = are.0; board_is = are.1 }))
 
-module _ (probes : List Word) (few : length probes ≤ 64) (design board : List ℕ) (call : Call) (rest : Rest) (files anew : Files vocabulary) (own broken : List ℕ) (at_design : IsOneOf files (kinds.Design, design)) (at_board : IsOneOf files (kinds.Board, board)) where
+module _ (probes : List Word) (few : length probes ≤ 65) (design board : List ℕ) (call : Call) (rest : Rest) (files anew : Files vocabulary) (own broken : List ℕ) (at_design : IsOneOf files (kinds.Design, design)) (at_board : IsOneOf files (kinds.Board, board)) where
   abbrev Kept : PlanBy → Type 0
   Kept by = IsRest by files anew own broken rest
 

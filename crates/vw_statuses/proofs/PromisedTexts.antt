@@ -1,5 +1,5 @@
 -- What each command has written where it ends with status 0, from its table.
-use Rattle.std.proofs.Common.{◌≡◌, ◌∙◌, ℕ, List, [], ap}
+use Rattle.std.proofs.Common.{◌≡◌, ◌∙◌, ℕ, Bool, List, [], length, ap}
 use Rattle.vw_net.specs.declared.ordered.Ordered.{Ordered}
 use Rattle.vw_design.specs.Paths.{Word}
 use Rattle.vw_outside.specs.Writes.{appended}
@@ -12,11 +12,11 @@ use Rattle.vw_front.specs.Designs.{WatchedDesign}
 use Rattle.vw_plan.specs.declared.board.Board.{Board}
 use Rattle.vw_plan.specs.declared.plan.Plan.{Plan}
 use Rattle.vw_courses.specs.Messages.{vocabulary, Call, CallWork}
-use Rattle.vw_courses.specs.Commands.{TextFrom, course_of, netlist_state, plan_rest, replay_course, replayed_trace_of, replayed_wave_of, saved_of, size_rest, texts_kept, trace_of, usage_course, wave_of}
+use Rattle.vw_courses.specs.Commands.{TextFrom, TextOver, course_of, ends_by, netlist_counted, netlist_state, over_counted, plan_rest, replay_course, replayed_trace_of_until, replayed_wave_of_until, saved_of, size_rest, texts_kept, trace_of_until, usage_course, watched_words, wave_of_until}
 use Rattle.vw_courses.specs.MayPlan.{PlanBy, made_here, of_file, for_chips, by_file, by_chips}
 use Rattle.vw_courses.specs.Words.{Spelled}
 use Rattle.vw_courses.specs.Words as words
-use Rattle.vw_courses.proofs.TextsOfDesigns.{saves_agree}
+use Rattle.vw_courses.proofs.TextsOfDesigns.{saves_until_agree}
 use Rattle.vw_statuses.specs.EmittedBoards.{BoardsShow}
 use Rattle.vw_statuses.specs.PlannedStatuses.{PlanTexts, HoldTexts}
 use Rattle.vw_statuses.specs.Promises.{AreHeld, Promise, PromisesReplay, WritesPlanned}
@@ -75,12 +75,12 @@ replayed probes text design state stimulus call is status d t s design_held stat
 
 pub promised : BoardsShow → (spelled : Spelled) (call : Call) → IsCallOf (course_of spelled) call → call.status ≡ 0
     → Promise spelled call.before.shelf.told call.before.out call.after.out
-promised show (words.sim design stimulus unknown probes) call is status = λ d s design_held stimulus_held.
-    writes_over probes (trace_of unknown) design d s _ call
-    ((sim_table probes (trace_of unknown) design stimulus call is).traced.ends.done (d, s) (record { its_held = design_held; stimulus_held = stimulus_held }) status)
-promised show (words.wave design stimulus unknown probes) call is status = λ d s design_held stimulus_held.
-    writes_over probes (wave_of probes unknown) design d s _ call
-    ((sim_table probes (wave_of probes unknown) design stimulus call is).traced.ends.done (d, s) (record { its_held = design_held; stimulus_held = stimulus_held }) status)
+promised show (words.sim design stimulus unknown until probes) call is status = λ d s design_held stimulus_held.
+    writes_over (watched_words until probes) (trace_of_until (ends_by until) unknown) design d s _ call
+    ((sim_table (watched_words until probes) (trace_of_until (ends_by until) unknown) design stimulus call is).traced.ends.done (d, s) (record { its_held = design_held; stimulus_held = stimulus_held }) status)
+promised show (words.wave design stimulus unknown until probes) call is status = λ d s design_held stimulus_held.
+    writes_over (watched_words until probes) (wave_of_until (ends_by until) probes unknown) design d s _ call
+    ((sim_table (watched_words until probes) (wave_of_until (ends_by until) probes unknown) design stimulus call is).traced.ends.done (d, s) (record { its_held = design_held; stimulus_held = stimulus_held }) status)
 promised show (words.grade design stimulus workers unknown share) call is status = λ d s design_held stimulus_held.
     let done = (grade_table share unknown design stimulus call is).traced.ends.done (d, s) (record { its_held = design_held; stimulus_held = stimulus_held }) status in
     record {
@@ -90,8 +90,10 @@ promised show (words.grade design stimulus workers unknown share) call is status
       rows_are = done.is.are.rows_are;
       wrote = ap (λ (o : SeenOutside vocabulary.Word). o.out) done.leaves ∙ ap (λ (w : CallWork). appended call.before.out w.text) done.is.is;
     }
-promised show (words.replay design stimulus state probes) call is status = replayed probes replayed_trace_of design state stimulus call is status
-promised show (words.replay_wave design stimulus state probes) call is status = replayed probes (replayed_wave_of probes) design state stimulus call is status
+promised show (words.replay design stimulus state until probes) call is status =
+    replayed (watched_words until probes) (replayed_trace_of_until (ends_by until)) design state stimulus call is status
+promised show (words.replay_wave design stimulus state until probes) call is status =
+    replayed (watched_words until probes) (replayed_wave_of_until (ends_by until) probes) design state stimulus call is status
 promised show (words.nets design probes) call is status = λ d design_held.
     let done = (nets_table probes design call is).ends.done d design_held status in
     record {
@@ -105,14 +107,17 @@ promised show (words.check design board plan probes) call is status = λ texts a
 promised show (words.plan design board chips probes) call is status = λ texts are.
     planned probes (by_chips chips) plan_text texts call
     ((written_ends probes design board (by_chips chips) plan_text AlwaysFits [] plan_rest (plain_writer plan_text) (λ number one. tt) call is).done texts (hold_texts probes design board (by_chips chips) call texts are) status)
-promised show (words.run design board stimulus given workers unknown probes) call is status = λ d s design_held stimulus_held.
-    headline probes design board (by_file given) stimulus workers unknown call is d s design_held stimulus_held status
+promised show (words.run design board stimulus given workers unknown until probes) call is status = λ d s design_held stimulus_held.
+    headline probes until design board (by_file given) stimulus workers unknown call is d s design_held stimulus_held status
 promised show (words.demo cells workers) call is status = (demo_table cells workers call is).done status
-promised show (words.save design board stimulus given workers unknown every) call is status = λ d s design_held stimulus_held.
-    let traced = run_traced [] (texts_kept every (saved_of unknown)) (texts_kept every (netlist_state unknown)) (saves_agree every [] unknown) design board (by_file given) stimulus workers unknown call is in
-    writes_over [] (texts_kept every (saved_of unknown)) design d s _ call (traced.ends.done (d, s) (record { its_held = design_held; stimulus_held = stimulus_held }) status)
-promised show (words.resume design board state stimulus given workers probes) call is status = λ d t s design_held state_held stimulus_held.
-    let done = (resume_traced probes design board (by_file given) state stimulus workers call is).ends.done (record { design = d; state = t }, s) (record { its_held = (design_held, state_held); stimulus_held = stimulus_held }) status in
+promised show (words.save design board stimulus given workers unknown every until) call is status = λ d s design_held stimulus_held.
+    let watched : List Word = watched_words until [] in
+    let ends : Bool = ends_by until in
+    let text : TextOver WatchedDesign = over_counted ends unknown (texts_kept every (saved_of unknown)) in
+    let traced = run_traced watched text (netlist_counted ends unknown (texts_kept every (netlist_state unknown))) (saves_until_agree ends every watched unknown) design board (by_file given) stimulus ends workers unknown call is in
+    writes_over watched text design d s _ call (traced.ends.done (d, s) (record { its_held = design_held; stimulus_held = stimulus_held }) status)
+promised show (words.resume design board state stimulus given workers until probes) call is status = λ d t s design_held state_held stimulus_held.
+    let done = (resume_traced (watched_words until probes) (length probes) design board (by_file given) state stimulus (ends_by until) workers call is).ends.done (record { design = d; state = t }, s) (record { its_held = (design_held, state_held); stimulus_held = stimulus_held }) status in
     record {
       its = done.is.its;
       rows = done.is.rows;

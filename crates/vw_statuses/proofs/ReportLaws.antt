@@ -184,7 +184,7 @@ module _ (probes : List Word) (design board : List ℕ) (by : PlanBy) (call : Ca
   report_ends is = end_table all [] (plan_statuses by) [] course keeps (λ file one. absurd one) call is (HoldTexts probes design board by) (IsReported probes by) NoWork (CanReport probes by design board) (IsReported probes by)
       written_by (λ file name did may. again_one told all [] (plan_statuses by) [] course keeps file name did may) to_text
 
-  pub report_table : length probes ≤ 64 → IsCallOf course call → ReportStatuses probes by design board call
+  pub report_table : length probes ≤ 65 → IsCallOf course call → ReportStatuses probes by design board call
   report_table few is = record {
     planned = planned_table probes few design board call (later_names probes) all [] [] [] (inl refl) (inr (inl refl)) by at_plan is_rest
         (record { answer = is.answer; follows = followed_later probes design board by call.before call.after is.answer is.follows; ends = is.ends });

@@ -25,7 +25,7 @@ use Rattle.vw_plan.specs.PlannedBoard.{planned_board}
 use Rattle.vw_prog.specs.declared.word.Word.{Word}
 use Rattle.vw_resume.specs.declared.state.State.{State}
 use Rattle.vw_resume.specs.declared.fault.StateFault.TheVariants.{TooManyClocks}
-use Rattle.vw_trace.specs.FlatTrace.{trace_from}
+use Rattle.vw_trace.specs.FlatTrace.{trace_until}
 use Rattle.vw_resume.proofs.ReadBack.{spelled_once}
 use Rattle.vw_rows.specs.declared.limits.TheConstants.{MOST_CLOCKS}
 use Rattle.vw_courses.specs.declared.vocabulary.File.TheVariants as kinds
@@ -33,12 +33,12 @@ use Rattle.vw_courses.specs.declared.vocabulary.Reason.{Reason}
 use Rattle.vw_courses.specs.declared.vocabulary.Reason.TheVariants as reasons
 use Rattle.vw_courses.specs.Messages.{reason_status, vocabulary, Call, CallWork}
 use Rattle.vw_courses.specs.Kinds.{rows_kind, state_kind, IsStateOf, IsBadState, AreTooManyClocks, clocks_fit}
-use Rattle.vw_courses.specs.Commands.{Scripts, RowCheck, check_by, trace_course, with_check, checked_rows_course, scripts_from, state_course, resume_rest, ready_course}
+use Rattle.vw_courses.specs.Commands.{TextOver, Scripts, RowCheck, check_by, trace_course, with_check, checked_rows_course, scripts_from, state_course, resume_rest, ready_course}
 use Rattle.vw_courses.specs.MayPlan.{PlanBy}
 use Rattle.vw_statuses.specs.PlannedStatuses.{PlanTexts, HavePlan, plan_statuses, HoldTexts}
 use Rattle.vw_statuses.specs.TracedStatuses.{Subject, IsTrace, TracedStatuses}
 use Rattle.vw_statuses.specs.TracedStatuses as traced
-use Rattle.vw_statuses.specs.ResumeStatuses.{ResumeTexts, Resumption, AreResumed, trace_from_state, IsNoState, resumptions, up_to_state, its_files, UsesFrom, IsReadyPlan, IsReady, AreTooMany, MayBeTooMany, CarriesFrom, ResumeStatuses}
+use Rattle.vw_statuses.specs.ResumeStatuses.{ResumeTexts, Resumption, AreResumed, IsNoState, resumptions, up_to_state, its_files, UsesFrom, IsReadyPlan, IsReady, AreTooMany, MayBeTooMany, CarriesFrom, ResumeStatuses}
 use Rattle.vw_statuses.proofs.OnBoards.{netlist_same}
 use Rattle.vw_statuses.proofs.TracedLaws.{ComesToRows, keeps_rows, barred_rows, same_rows, traced_table}
 use Rattle.vw_statuses.proofs.PlannedLaws.{IsAmong, Planned, given_among, other_among, none_planned, apart_from, Has, Spelled, opening, ready_opening, IsRest, keeps_all, work_planned, planned_table}
@@ -54,9 +54,14 @@ same_flat : (probes : List ProbeWord) (texts : ResumeTexts) (its : Resumption) �
     → ordered.flat ≡ its.ordered.flat
 same_flat probes texts its are ordered is = netlist_same probes texts.design ordered its.ordered is are.netlist
 
-module _ (probes : List ProbeWord) (design board : List ℕ) (by : PlanBy) (state stimulus : List ℕ) (workers : ℕ) (call : Call) where
+-- the watched words are these, so many of them are probes, and with `until` the one behind them is a trigger
+module _ (probes : List ProbeWord) (count : ℕ) (design board : List ℕ) (by : PlanBy) (state stimulus : List ℕ) (until : Bool) (workers : ℕ) (call : Call) where
+  -- what is written
+  abbrev text : TextOver Resumption
+  text its rows = trace_until until count its.state.clock its.state.latches its.ordered.flat rows
+
   abbrev rest : Ordered → Board → Plan → Course vocabulary
-  rest = resume_rest (length probes) state stimulus workers
+  rest = resume_rest until count state stimulus workers
 
   abbrev course : Course vocabulary
   course = ready_course probes design board by rest
@@ -65,13 +70,13 @@ module _ (probes : List ProbeWord) (design board : List ℕ) (by : PlanBy) (stat
   told = call.before.shelf.told
 
   abbrev subject : Subject
-  subject = resumptions probes design board by state stimulus workers
+  subject = resumptions probes text design board by state stimulus until workers
 
   abbrev all : Files vocabulary
-  all = its_files probes design board by state stimulus workers
+  all = its_files probes text design board by state stimulus until workers
 
   abbrev first : Files vocabulary
-  first = up_to_state probes design board by state stimulus workers
+  first = up_to_state probes text design board by state stimulus until workers
 
   abbrev anew : Files vocabulary
   anew = (kinds.Stimulus, stimulus) ∷ []
@@ -80,27 +85,27 @@ module _ (probes : List ProbeWord) (design board : List ℕ) (by : PlanBy) (stat
   own = 11 ∷ 5 ∷ []
 
   abbrev Uses : Scripts → Type 0
-  Uses = UsesFrom probes design board by state stimulus workers told
+  Uses = UsesFrom probes text design board by state stimulus until workers told
 
   abbrev Ready : Call → ResumeTexts → List ℕ → Type 0
-  Ready = IsReady probes design board by state stimulus workers
+  Ready = IsReady probes text design board by state stimulus until workers
 
   abbrev ReadyPlan : ResumeTexts → Type 0
-  ReadyPlan texts = IsReadyPlan probes design board by state stimulus workers call texts
+  ReadyPlan texts = IsReadyPlan probes text design board by state stimulus until workers call texts
 
   -- what the rows are checked for, and the words of the links
   abbrev check : Resumption → RowCheck
   check its = check_by (clocks_fit its.state.clock)
 
   abbrev words : Planned → State → Scripts
-  words its one = scripts_from workers (planned_board its.0 its.1 its.2) one.clock one.latches
+  words its one = scripts_from until workers (planned_board its.0 its.1 its.2) one.clock one.latches
 
   -- behind the state, where rows come
   abbrev goes_on : Planned → State → Course vocabulary
-  goes_on its one = state_course (length probes) stimulus workers (planned_board its.0 its.1 its.2) one
+  goes_on its one = state_course until count stimulus workers (planned_board its.0 its.1 its.2) one
 
   abbrev rows_then : Ordered → State → Scripts → Course vocabulary
-  rows_then ordered one scripts = checked_rows_course stimulus ordered.flat.inputs (check_by (clocks_fit one.clock)) (trace_from (length probes) one.clock one.latches ordered.flat) scripts
+  rows_then ordered one scripts = checked_rows_course stimulus ordered.flat.inputs (check_by (clocks_fit one.clock)) (trace_until until count one.clock one.latches ordered.flat) scripts
 
   -- ---- where its files are
 
@@ -150,7 +155,7 @@ module _ (probes : List ProbeWord) (design board : List ℕ) (by : PlanBy) (stat
   is_rest : IsRest by all anew own (5 ∷ []) rest
   is_rest = record {
     keeps = λ ordered on its. keeps_stage all anew own (5 ∷ []) (state_kind (latch_count ordered.flat.cells)) state (goes_on (ordered, on, its)) at_state (inl refl)
-        (λ one. keeps_rows stimulus ordered.flat.inputs (check_by (clocks_fit one.clock)) (trace_from (length probes) one.clock one.latches ordered.flat) (words (ordered, on, its) one) all own at_stimulus (inr (inl refl)) (inl refl));
+        (λ one. keeps_rows stimulus ordered.flat.inputs (check_by (clocks_fit one.clock)) (trace_until until count one.clock one.latches ordered.flat) (words (ordered, on, its) one) all own at_stimulus (inr (inl refl)) (inl refl));
     apart = apart;
     whole = λ number one. (apart number one).1;
   }
@@ -192,10 +197,10 @@ module _ (probes : List ProbeWord) (design board : List ℕ) (by : PlanBy) (stat
         (λ one spelled.
         let scripts = words one.0 one.1 in
         let has : HasState one = (may_spell probes design board by call ready.plan_texts ready.planned_held one.0.0 one.0.1 one.0.2 spelled.0, (texts.state, of_held (told state) texts.state ready.state_held, spelled.1)) in
-        subst (λ (flat : Flat). StandsAt told all P (checked_rows_course stimulus flat.inputs (check_by (clocks_fit one.1.clock)) (trace_from (length probes) one.1.clock one.1.latches flat) scripts)) (sym (same_flat probes texts its are one.0.0 (own_design one.0.0 spelled.0.on.netlist)))
+        subst (λ (flat : Flat). StandsAt told all P (checked_rows_course stimulus flat.inputs (check_by (clocks_fit one.1.clock)) (trace_until until count one.1.clock one.1.latches flat) scripts)) (sym (same_flat probes texts its are one.0.0 (own_design one.0.0 spelled.0.on.netlist)))
         (subst (λ (from : State). StandsAt told all P (rows_then its.ordered from scripts)) (sym (same_state probes texts its are one.0.0 one.1 spelled.1)) (there scripts (uses one has))))
 
-  to_rows : ComesToRows subject check (trace_from_state probes) stimulus course call all (plan_statuses by ++ own) Ready Uses
+  to_rows : ComesToRows subject check text stimulus course call all (plan_statuses by ++ own) Ready Uses
   to_rows = record {
     keeps = keeps_all probes design board by call rest all anew own (5 ∷ []) (inl refl) (inr (inl refl)) at_plan is_rest;
     behind = λ P passes may.
@@ -207,15 +212,15 @@ module _ (probes : List ProbeWord) (design board : List ℕ) (by : PlanBy) (stat
     one = at_stimulus;
   }
 
-  pub resume_traced : IsCallOf course call → TracedStatuses subject (trace_from_state probes) stimulus all Ready Uses call
-  resume_traced = traced_table subject check (trace_from_state probes) stimulus course call all (plan_statuses by ++ own) Ready Uses to_rows
+  pub resume_traced : IsCallOf course call → TracedStatuses subject text stimulus all Ready Uses call
+  resume_traced = traced_table subject check text stimulus course call all (plan_statuses by ++ own) Ready Uses to_rows
 
   -- ---- the state
 
   -- a refusal with its status is for the text of the state, or for the clocks
   module _ (texts : ResumeTexts) (hold : subject.Hold call texts) where
     abbrev WhyOver : Reason → Type 0
-    WhyOver reason = IsNoState probes texts reason ⊎ MayBeTooMany probes design board by state stimulus workers told texts reason
+    WhyOver reason = IsNoState probes texts reason ⊎ MayBeTooMany probes text design board by state stimulus until workers told texts reason
 
     state_why : (reason : Reason) → reason_status reason ≡ 11 → May told (RefusesHere reason) course → WhyOver reason
     state_why reason same may =
@@ -225,7 +230,7 @@ module _ (probes : List ProbeWord) (design board : List ℕ) (by : PlanBy) (stat
         (λ (bad : IsBadState (latch_count plan.0.0.flat.cells) texts.state reason). inl (record { ordered = plan.0.0; netlist = netlist; bad = bad }))
         (λ (more : (one : State) × IsStateOf (latch_count plan.0.0.flat.cells) texts.state one × May told (RefusesHere reason) (goes_on plan.0 one)).
         let later = stage_behind told 11 (RefusesHere reason) (refusal_behind told 11 reason same) (rows_kind plan.0.0.flat.inputs) stimulus
-        (with_check (check_by (clocks_fit more.0.clock)) (trace_course stimulus plan.0.0.flat.inputs (trace_from (length probes) more.0.clock more.0.latches plan.0.0.flat) (words plan.0 more.0))) (λ is. omega (arith, is)) more.2 in
+        (with_check (check_by (clocks_fit more.0.clock)) (trace_course stimulus plan.0.0.flat.inputs (trace_until until count more.0.clock more.0.latches plan.0.0.flat) (words plan.0 more.0))) (λ is. omega (arith, is)) more.2 in
         inr (
           later.0,
           later.1,
@@ -244,12 +249,12 @@ module _ (probes : List ProbeWord) (design board : List ℕ) (by : PlanBy) (stat
     -- a stimulus that is held may be no other text
     module _ (s : List ℕ) (held_s : Holds call stimulus s) where
       abbrev Why : Reason → Type 0
-      Why reason = IsNoState probes texts reason ⊎ AreTooMany probes design board by state stimulus workers texts s reason
+      Why reason = IsNoState probes texts reason ⊎ AreTooMany probes text design board by state stimulus until workers texts s reason
 
       held_why : (reason : Reason) → WhyOver reason → Why reason
       held_why reason (inl none) = inl none
       held_why reason (inr (other, of, many)) =
-          inr (subst (λ (t : List ℕ). AreTooMany probes design board by state stimulus workers texts t reason) (its_text (told stimulus) other s held_s of) many)
+          inr (subst (λ (t : List ℕ). AreTooMany probes text design board by state stimulus until workers texts t reason) (its_text (told stimulus) other s held_s of) many)
 
       no_state_held : IsCallOf course call → call.status ≡ 11 → IsRefusedFor vocabulary Why call
       no_state_held is status =
@@ -270,11 +275,11 @@ module _ (probes : List ProbeWord) (design board : List ℕ) (by : PlanBy) (stat
   -- and so are too many clocks
   clocks_bad : (texts : ResumeTexts) (s : List ℕ) (its : Resumption) (rows : List (List Bool)) → ReadyPlan texts → Holds call stimulus s
       → traced.AreSpelled subject texts s its rows → MOST_CLOCKS < its.state.clock + length rows
-      → StandsAt told all (IsToRefuse (AreTooMany probes design board by state stimulus workers texts s)) course
+      → StandsAt told all (IsToRefuse (AreTooMany probes text design board by state stimulus until workers texts s)) course
   clocks_bad texts s its rows ready held_s are many =
-      let P : Course vocabulary → Type 0 = IsToRefuse (AreTooMany probes design board by state stimulus workers texts s) in
+      let P : Course vocabulary → Type 0 = IsToRefuse (AreTooMany probes text design board by state stimulus until workers texts s) in
       come_to texts ready its are.spells P
-      (λ scripts used. past told all P (rows_kind its.ordered.flat.inputs) stimulus (with_check (check_by (clocks_fit its.state.clock)) (trace_course stimulus its.ordered.flat.inputs (trace_from (length probes) its.state.clock its.state.latches its.ordered.flat) scripts)) s at_stimulus held_s (rows, are.rows_are)
+      (λ scripts used. past told all P (rows_kind its.ordered.flat.inputs) stimulus (with_check (check_by (clocks_fit its.state.clock)) (trace_course stimulus its.ordered.flat.inputs (trace_until until count its.state.clock its.state.latches its.ordered.flat) scripts)) s at_stimulus held_s (rows, are.rows_are)
       (λ these those. inl (
         (reasons.State (TooManyClocks (its.state.clock + length these)), (refl, subst (λ (so : List (List Bool)). MOST_CLOCKS < its.state.clock + length so) (sym (same_rows its.ordered.flat.inputs s these rows those are.rows_are)) many)),
         λ reason bad. record { its = its; rows = these; are = record { spells = are.spells; rows_are = those }; bad = bad },
@@ -282,8 +287,8 @@ module _ (probes : List ProbeWord) (design board : List ℕ) (by : PlanBy) (stat
 
   -- ---- the table
 
-  carries : (texts : ResumeTexts) (s : List ℕ) → IsDone (IsTrace subject (trace_from_state probes) texts s Uses) call
-      → CarriesFrom probes design board by state stimulus workers texts s call
+  carries : (texts : ResumeTexts) (s : List ℕ) → IsDone (IsTrace subject text texts s Uses) call
+      → CarriesFrom probes text design board by state stimulus until workers texts s call
   carries texts s done =
       let trace = done.is in
       let uses = trace.uses in
@@ -302,14 +307,14 @@ module _ (probes : List ProbeWord) (design board : List ℕ) (by : PlanBy) (stat
             ∙ ap (λ (scripts : Option (ℕ → List Word)). carried scripts call.before.links) said;
       }
 
-  pub resume_table_of : length probes ≤ 64 → IsCallOf course call → ResumeStatuses probes design board by state stimulus workers call
+  pub resume_table_of : length probes ≤ 65 → IsCallOf course call → ResumeStatuses probes text design board by state stimulus until workers call
   resume_table_of few is = record {
     planned = planned_table probes few design board call rest all anew own (5 ∷ []) (inl refl) (inr (inl refl)) by at_plan is_rest is;
     no_state = λ texts s hold held_s. no_state_held texts hold s held_s is;
     no_state_over = λ texts hold. no_state_over texts hold is;
     no_state_comes = λ texts reason ready none. call_refused vocabulary first call (IsNoState probes texts) course is (state_bad texts reason ready none);
     too_many_come = λ texts s its rows ready held_s are many.
-        call_refused vocabulary all call (AreTooMany probes design board by state stimulus workers texts s) course is (clocks_bad texts s its rows ready held_s are many);
+        call_refused vocabulary all call (AreTooMany probes text design board by state stimulus until workers texts s) course is (clocks_bad texts s its rows ready held_s are many);
     traced = resume_traced is;
     on_links = λ texts s hold held_s status. carries texts s ((resume_traced is).ends.done (texts, s) (record { its_held = hold; stimulus_held = held_s }) status);
     done_planned = λ texts hold status.
@@ -320,9 +325,10 @@ module _ (probes : List ProbeWord) (design board : List ℕ) (by : PlanBy) (stat
     absent_state = λ gone. call_barred (plan_statuses by) course call is ((to_plan all (inl refl) (inr (inl refl)) at_plan).barred (plan_statuses by) (λ n one. one) (λ its. rest its.0 its.1 its.2)
         (λ its. barred_here told (plan_statuses by) (state_kind (latch_count its.0.flat.cells)) state (goes_on its) gone));
     absent_stimulus = λ gone. call_barred (plan_statuses by ++ 11 ∷ []) course call is (to_state.barred (plan_statuses by ++ 11 ∷ []) (λ n one. one) (λ one. goes_on one.0 one.1)
-        (λ one. barred_rows stimulus one.0.0.flat.inputs (check_by (clocks_fit one.1.clock)) (trace_from (length probes) one.1.clock one.1.latches one.0.0.flat) (words one.0 one.1) told (plan_statuses by ++ 11 ∷ []) gone));
+        (λ one. barred_rows stimulus one.0.0.flat.inputs (check_by (clocks_fit one.1.clock)) (trace_until until count one.1.clock one.1.latches one.0.0.flat) (words one.0 one.1) told (plan_statuses by ++ 11 ∷ []) gone));
   }
 
-pub resume_table : (probes : List ProbeWord) → length probes ≤ 64 → (design board : List ℕ) (by : PlanBy) (state stimulus : List ℕ) (workers : ℕ) (call : Call)
-    → IsCallOf (ready_course probes design board by (resume_rest (length probes) state stimulus workers)) call → ResumeStatuses probes design board by state stimulus workers call
-resume_table probes few design board by state stimulus workers call is = resume_table_of probes design board by state stimulus workers call few is
+pub resume_table : (probes : List ProbeWord) (count : ℕ) → length probes ≤ 65 → (design board : List ℕ) (by : PlanBy) (state stimulus : List ℕ) (until : Bool) (workers : ℕ) (call : Call)
+    → IsCallOf (ready_course probes design board by (resume_rest until count state stimulus workers)) call
+    → ResumeStatuses probes (λ its rows. trace_until until count its.state.clock its.state.latches its.ordered.flat rows) design board by state stimulus until workers call
+resume_table probes count few design board by state stimulus until workers call is = resume_table_of probes count design board by state stimulus until workers call few is

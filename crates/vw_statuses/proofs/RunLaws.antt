@@ -52,26 +52,26 @@ may_spell probes design board by call texts hold ordered on plan are = record {
   plan_is = plan_by call by texts.plan hold.plan_held ordered on plan are.plan_is;
 }
 
-module _ (probes : List Word) (text : TextOver WatchedDesign) (flat_text : TextOver Ordered) (agree : IsTextOfDesigns probes text flat_text) (design board : List ℕ) (by : PlanBy) (stimulus : List ℕ) (workers : ℕ) (unknown : Bool) (call : Call) where
+module _ (probes : List Word) (text : TextOver WatchedDesign) (flat_text : TextOver Ordered) (agree : IsTextOfDesigns probes text flat_text) (design board : List ℕ) (by : PlanBy) (stimulus : List ℕ) (until : Bool) (workers : ℕ) (unknown : Bool) (call : Call) where
   -- behind its plan the netlist is run
   abbrev rest : Ordered → Board → Plan → Course vocabulary
-  rest = board_course stimulus flat_text workers unknown
+  rest = board_course stimulus flat_text until workers unknown
 
   abbrev course : Course vocabulary
   course = ready_course probes design board by rest
 
   -- the words of its links
   abbrev words : Ordered → Board → Plan → Scripts
-  words ordered on its = board_scripts workers unknown (planned_board ordered on its)
+  words ordered on its = board_scripts until workers unknown (planned_board ordered on its)
 
   abbrev told : List ℕ → Told
   told = call.before.shelf.told
 
   abbrev Uses : Scripts → Type 0
-  Uses = UsesBoard workers unknown (MaySpell probes design board by told)
+  Uses = UsesBoard until workers unknown (MaySpell probes design board by told)
 
   abbrev all : Files vocabulary
-  all = its_files probes text design board by stimulus workers unknown
+  all = its_files probes text design board by stimulus until workers unknown
 
   abbrev anew : Files vocabulary
   anew = (kinds.Stimulus, stimulus) ∷ []
@@ -80,7 +80,7 @@ module _ (probes : List Word) (text : TextOver WatchedDesign) (flat_text : TextO
   numbers = plan_statuses by ++ 5 ∷ []
 
   abbrev Ready : Call → List ℕ → List ℕ → Type 0
-  Ready = IsReady probes text design board by stimulus workers unknown
+  Ready = IsReady probes text design board by stimulus until workers unknown
 
   at_plan : IsAmong all by
   at_plan = given_among by (kinds.Design, design) (kinds.Board, board) anew
@@ -132,11 +132,11 @@ module _ (probes : List Word) (text : TextOver WatchedDesign) (flat_text : TextO
   pub run_traced : IsCallOf course call → TracedStatuses (designs probes design) text stimulus all Ready Uses call
   run_traced = traced_table (designs probes design) (λ its. no_check) text stimulus course call all numbers Ready Uses to_rows
 
-  pub run_table : length probes ≤ 64 → IsCallOf course call → RunStatuses probes text design board by stimulus workers unknown call
+  pub run_table : length probes ≤ 65 → IsCallOf course call → RunStatuses probes text design board by stimulus until workers unknown call
   run_table few is = record {
     planned = planned_table probes few design board call rest all anew (5 ∷ []) (5 ∷ []) (inl refl) (inr (inl refl)) by at_plan is_rest is;
     traced = run_traced is;
-    on_links = λ texts s hold held_s status. carries_all probes text design call workers unknown texts.design s (MaySpell probes design board by told) (AreSpelled probes by texts) (λ ordered on plan may. its_opening.spelled texts hold (ordered, on, plan) may)
+    on_links = λ texts s hold held_s status. carries_all probes text design call until workers unknown texts.design s (MaySpell probes design board by told) (AreSpelled probes by texts) (λ ordered on plan may. its_opening.spelled texts hold (ordered, on, plan) may)
         ((run_traced is).ends.done (texts.design, s) (record { its_held = hold.design_held; stimulus_held = held_s }) status);
     done_planned = λ texts hold status.
         let done = (call_table course call is).done status in

@@ -79,7 +79,7 @@ module _ (probes : List Word) (design board : List ℕ) (by : PlanBy) (text : Or
   written_ends is = end_table all [] numbers [] course keeps (λ file one. absurd one) call is (HoldTexts probes design board by) (IsWritten probes by text Fits) NoWork (CanWrite probes by text Fits design board) (IsWritten probes by text Fits)
       written_by (λ file name did may. again_one told all [] numbers [] course keeps file name did may) to_text
 
-  pub written_table : length probes ≤ 64 → IsCallOf course call → WrittenStatuses probes by text Fits design board refusals call
+  pub written_table : length probes ≤ 65 → IsCallOf course call → WrittenStatuses probes by text Fits design board refusals call
   written_table few is = record {
     planned = planned_table probes few design board call rest all [] refusals [] (inl refl) (inr (inl refl)) by at_plan is_rest is;
     ends = written_ends is;
@@ -95,7 +95,7 @@ plain_writer text = record {
   comes = λ told files What ordered board plan fits what. (tt, what);
 }
 
-pub plan_table : (probes : List Word) (design board : List ℕ) (by : PlanBy) (call : Call) → length probes ≤ 64
+pub plan_table : (probes : List Word) (design board : List ℕ) (by : PlanBy) (call : Call) → length probes ≤ 65
     → IsCallOf (plan_course probes design board by) call → PlanStatuses probes design board by call
 plan_table probes design board by call few = written_table probes design board by plan_text AlwaysFits [] plan_rest (plain_writer plan_text) (λ number one. tt) call few
 
@@ -116,7 +116,7 @@ module _ (probes : List Word) (design board plan : List ℕ) (call : Call) where
       ((written_opening probes design board (of_file plan) size_text AlwaysFits [] size_rest (plain_writer size_text) (λ number one. tt) call).comes (IsToWork seen files What) texts hold (its, of) (λ x. size_rest x.0 x.1 x.2)
       (λ x are. (tt, ap (λ (one : Plan). writing (sound_text one)) (spelled_once texts.plan x.2 its are.plan_is.0 of.are.plan_is.0))))
 
-  pub check_table : length probes ≤ 64 → IsCallOf (check_course probes design board plan) call → CheckStatuses probes design board plan call
+  pub check_table : length probes ≤ 65 → IsCallOf (check_course probes design board plan) call → CheckStatuses probes design board plan call
   check_table few is = record {
     written = written_table probes design board (of_file plan) size_text AlwaysFits [] size_rest (plain_writer size_text) (λ number one. tt) call few is;
     accepted = λ texts its hold of. accepted is texts its hold of;

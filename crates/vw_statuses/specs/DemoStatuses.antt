@@ -48,7 +48,7 @@ pub record IsRunOfTexts (cells workers : ℕ) (call run : Call) : Type 0 where
   pub links : run.before.links ≡ call.before.links
   pub links_after : run.after.links ≡ call.after.links
   -- all that is said of runs: when the texts are refused, for which reason, and that they run otherwise
-  pub statuses : RunStatuses [] (trace_of false) design_name board_name made_here stimulus_name workers false run
+  pub statuses : RunStatuses [] (trace_of false) design_name board_name made_here stimulus_name false workers false run
 
 -- nothing changed, and the message is that of the run
 pub record IsRefusedAs (call run : Call) : Type 0 where
@@ -64,7 +64,7 @@ pub record DemoStatuses (cells workers : ℕ) (call : Call) : Type 0 where
   -- 0: the summary of the trace of the unpartitioned design
   pub done : call.status ≡ 0 → WritesSummary cells call
   -- 0: each link has carried its script of one good plan over all clocks, where several workers run it
-  pub on_links : call.status ≡ 0 → CarriesAll [] workers false (design_text cells) (stimulus_text cells)
+  pub on_links : call.status ≡ 0 → CarriesAll [] false workers false (design_text cells) (stimulus_text cells)
       (AreSpelled [] made_here (demo_texts cells)) run
   -- 8: out has a part of the summary, and a fault was counted there
   pub write_fault : call.status ≡ 8 → HasSummary cells (λ text. FailedAfterPart text call.before.out call.after.out)

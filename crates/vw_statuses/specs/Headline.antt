@@ -5,7 +5,7 @@ use Rattle.vw_design.specs.Clocks.{columns}
 use Rattle.vw_front.specs.Designs.{WatchedDesign, IsWatchedDesignOf}
 use Rattle.vw_outside.specs.Told.{Told, held}
 use Rattle.vw_outside.specs.Writes.{SeenSink, appended}
-use Rattle.vw_courses.specs.Commands.{TextOver, trace_of}
+use Rattle.vw_courses.specs.Commands.{TextOver, ends_by, trace_of_until, watched_words}
 use Rattle.vw_courses.specs.Kinds.{IsRowsOf}
 use Rattle.vw_courses.specs.Words.{run, spelled_by}
 
@@ -18,14 +18,14 @@ pub record WritesOver (probes : List Word) (text : TextOver WatchedDesign) (d s 
   pub rows_are : IsRowsOf (length (columns spelled.design)) s rows
   pub wrote : after ≡ appended before (text spelled rows)
 
--- the trace, which knows no board
-abbrev pub WritesTrace : List Word → Bool → List ℕ → List ℕ → SeenSink → SeenSink → Type 0
-WritesTrace probes unknown = WritesOver probes (trace_of unknown)
+-- the trace, which knows no board, up to the first clock in which the trigger is 1, where there is one
+abbrev pub WritesTrace : List Word → Option Word → Bool → List ℕ → List ℕ → SeenSink → SeenSink → Type 0
+WritesTrace probes until unknown = WritesOver (watched_words until probes) (trace_of_until (ends_by until) unknown)
 
 -- where the words spell a run, on whatever board, by whatever plan and with whatever number of workers, the texts of design and
 -- stimulus are held and the status is 0, the trace of the unpartitioned design was written
 abbrev pub Headline : List (List ℕ) → (List ℕ → Told) → SeenSink → SeenSink → ℕ → Type 0
 Headline words told before after status =
-    (design board stimulus : List ℕ) (given : Option (List ℕ)) (workers : ℕ) (unknown : Bool) (probes : List Word)
-    → spelled_by words ≡ run design board stimulus given workers unknown probes
-    → (d s : List ℕ) → told design ≡ held d → told stimulus ≡ held s → status ≡ 0 → WritesTrace probes unknown d s before after
+    (design board stimulus : List ℕ) (given : Option (List ℕ)) (workers : ℕ) (unknown : Bool) (until : Option Word) (probes : List Word)
+    → spelled_by words ≡ run design board stimulus given workers unknown until probes
+    → (d s : List ℕ) → told design ≡ held d → told stimulus ≡ held s → status ≡ 0 → WritesTrace probes until unknown d s before after

@@ -14,6 +14,7 @@ pub mod ResumeStatuses
 pub mod RunStatuses
 pub mod SimStatuses
 pub mod TracedStatuses
+pub mod Triggers
 pub mod UsageStatuses
 pub mod WaveLaw
 pub mod WrittenStatuses

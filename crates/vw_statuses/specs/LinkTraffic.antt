@@ -12,16 +12,17 @@ use Rattle.vw_courses.specs.Messages.{Call}
 use Rattle.vw_courses.specs.Commands.{Scripts, board_scripts}
 use Rattle.vw_courses.specs.Kinds.{IsRowsOf}
 
--- links are used as some planned board of this kind uses them
-pub record UsesBoard (workers : ℕ) (unknown : Bool) (Is : Ordered → Board → Plan → Type 0) (scripts : Scripts) : Type 0 where
+-- links are used as some planned board of this kind uses them, where the last output may be a trigger
+pub record UsesBoard (until : Bool) (workers : ℕ) (unknown : Bool) (Is : Ordered → Board → Plan → Type 0) (scripts : Scripts) : Type 0 where
   pub ordered : Ordered
   pub board : Board
   pub plan : Plan
   pub is : Is ordered board plan
-  pub are : scripts ≡ board_scripts workers unknown (planned_board ordered board plan)
+  pub are : scripts ≡ board_scripts until workers unknown (planned_board ordered board plan)
 
--- each link has carried, behind what it had before, exactly its words of such a planned board, over all rows of the stimulus
-pub record CarriesAll (probes : List Word) (workers : ℕ) (unknown : Bool) (d s : List ℕ) (Is : Ordered → Board → Plan → Type 0) (call : Call) : Type 0 where
+-- each link has carried, behind what it had before, exactly its words of such a planned board, over all rows of the stimulus, or
+-- over those that are worked out until the trigger is 1
+pub record CarriesAll (probes : List Word) (until : Bool) (workers : ℕ) (unknown : Bool) (d s : List ℕ) (Is : Ordered → Board → Plan → Type 0) (call : Call) : Type 0 where
   pub spelled : WatchedDesign
   pub rows : List (List Bool)
   pub design_is : IsWatchedDesignOf probes d spelled
@@ -30,4 +31,4 @@ pub record CarriesAll (probes : List Word) (workers : ℕ) (unknown : Bool) (d s
   pub board : Board
   pub plan : Plan
   pub is : Is ordered board plan
-  pub links : call.after.links ≡ carried (board_scripts workers unknown (planned_board ordered board plan) rows) call.before.links
+  pub links : call.after.links ≡ carried (board_scripts until workers unknown (planned_board ordered board plan) rows) call.before.links

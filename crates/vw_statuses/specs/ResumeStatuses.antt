@@ -1,5 +1,5 @@
 -- What each status of `resume` says of its files.
-use Rattle.std.specs.Prelude.{◌≡◌, ◌<◌, ◌≤◌, ◌+◌, ◌++◌, ◌⊎◌, ℕ, Bool, List, [], ◌∷◌, length}
+use Rattle.std.specs.Prelude.{◌≡◌, ◌<◌, ◌≤◌, ◌+◌, ◌++◌, ◌⊎◌, ℕ, Bool, false, List, [], ◌∷◌, length}
 use Rattle.vw_net.specs.declared.ordered.Ordered.{Ordered}
 use Rattle.vw_net.specs.Cells.{latch_count}
 use Rattle.vw_design.specs.Paths.{Word as ProbeWord}
@@ -12,7 +12,7 @@ use Rattle.vw_plan.specs.declared.board.Board.{Board}
 use Rattle.vw_plan.specs.declared.plan.Plan.{Plan}
 use Rattle.vw_plan.specs.PlannedBoard.{planned_board}
 use Rattle.vw_resume.specs.declared.state.State.{State}
-use Rattle.vw_trace.specs.FlatTrace.{trace_from}
+use Rattle.vw_trace.specs.FlatTrace.{trace_until}
 use Rattle.vw_rows.specs.declared.limits.TheConstants.{MOST_CLOCKS}
 use Rattle.vw_courses.specs.declared.vocabulary.File.TheVariants as files
 use Rattle.vw_courses.specs.declared.vocabulary.Reason.{Reason}
@@ -38,9 +38,13 @@ pub record AreResumed (probes : List ProbeWord) (texts : ResumeTexts) (its : Res
   pub netlist : IsNetlistOf probes texts.design its.ordered
   pub state_is : IsStateOf (latch_count its.ordered.flat.cells) texts.state its.state
 
--- the trace of the netlist from the state on, which knows no board
+-- the trace of the netlist from the state on, which knows no board; with `until` the output behind the probes is a trigger
+abbrev pub trace_from_state_until : Bool → List ProbeWord → TextOver Resumption
+trace_from_state_until until probes its rows = trace_until until (length probes) its.state.clock its.state.latches its.ordered.flat rows
+
+-- over all rows
 abbrev pub trace_from_state : List ProbeWord → TextOver Resumption
-trace_from_state probes its rows = trace_from (length probes) its.state.clock its.state.latches its.ordered.flat rows
+trace_from_state = trace_from_state_until false
 
 -- the text of a state spells none of the design, for this reason
 pub record IsNoState (probes : List ProbeWord) (texts : ResumeTexts) (reason : Reason) : Type 0 where
@@ -48,7 +52,7 @@ pub record IsNoState (probes : List ProbeWord) (texts : ResumeTexts) (reason : R
   pub netlist : IsNetlistOf probes texts.design ordered
   pub bad : IsBadState (latch_count ordered.flat.cells) texts.state reason
 
-module _ (probes : List ProbeWord) (design board : List ℕ) (by : PlanBy) (state stimulus : List ℕ) (workers : ℕ) where
+module _ (probes : List ProbeWord) (text : TextOver Resumption) (design board : List ℕ) (by : PlanBy) (state stimulus : List ℕ) (until : Bool) (workers : ℕ) where
   abbrev pub resumptions : Subject
   resumptions = record {
     Texts = ResumeTexts;
@@ -79,7 +83,7 @@ module _ (probes : List ProbeWord) (design board : List ℕ) (by : PlanBy) (stat
     pub plan : Plan
     pub its_state : State
     pub is : MayResume told ordered its_board plan its_state
-    pub are : scripts ≡ scripts_from workers (planned_board ordered its_board plan) its_state.clock its_state.latches
+    pub are : scripts ≡ scripts_from until workers (planned_board ordered its_board plan) its_state.clock its_state.latches
 
   -- all but the stimulus are held, and there is a plan
   pub record IsReadyPlan (call : Call) (texts : ResumeTexts) : Type 0 where
@@ -107,7 +111,7 @@ module _ (probes : List ProbeWord) (design board : List ℕ) (by : PlanBy) (stat
   MayBeTooMany told texts reason = (s : List ℕ) × IsTextOf (told stimulus) s × AreTooMany texts s reason
 
   -- each link has carried, behind what it had before, exactly its words of such a planned board, from the state on over all
-  -- rows of the stimulus
+  -- rows of the stimulus, or over those that are worked out until the trigger is 1
   pub record CarriesFrom (texts : ResumeTexts) (s : List ℕ) (call : Call) : Type 0 where
     pub its : Resumption
     pub rows : List (List Bool)
@@ -117,7 +121,7 @@ module _ (probes : List ProbeWord) (design board : List ℕ) (by : PlanBy) (stat
     pub plan : Plan
     pub its_state : State
     pub is : MayResume call.before.shelf.told ordered its_board plan its_state
-    pub links : call.after.links ≡ carried (scripts_from workers (planned_board ordered its_board plan) its_state.clock its_state.latches rows) call.before.links
+    pub links : call.after.links ≡ carried (scripts_from until workers (planned_board ordered its_board plan) its_state.clock its_state.latches rows) call.before.links
 
   pub record ResumeStatuses (call : Call) : Type 0 where
     -- 1, 3, and 4 or 6, and a design, a board or a plan that is absent
@@ -135,7 +139,7 @@ module _ (probes : List ProbeWord) (design board : List ℕ) (by : PlanBy) (stat
         → IsRefusedFor vocabulary (AreTooMany texts s) call ⊎ IsStopped vocabulary its_files call
     -- 0, 5, 7, 8 and 9, and that it completes: the text is the trace of the design from the state on, whatever the plan is, and
     -- links carry the words of one plan of these files, or a part of them
-    pub traced : TracedStatuses resumptions (trace_from_state probes) stimulus its_files IsReady (UsesFrom call.before.shelf.told) call
+    pub traced : TracedStatuses resumptions text stimulus its_files IsReady (UsesFrom call.before.shelf.told) call
     -- 0: each link has carried its script of one such plan
     pub on_links : (texts : ResumeTexts) (s : List ℕ) → resumptions.Hold call texts → Holds call stimulus s → call.status ≡ 0 → CarriesFrom texts s call
     -- it is done on such a plan alone

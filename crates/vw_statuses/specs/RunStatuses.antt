@@ -13,7 +13,7 @@ use Rattle.vw_courses.specs.MayPlan.{PlanBy, MaySpell}
 use Rattle.vw_statuses.specs.TracedStatuses.{designs, TracedStatuses}
 use Rattle.vw_statuses.specs.LinkTraffic.{UsesBoard, CarriesAll}
 
-module _ (probes : List Word) (text : TextOver WatchedDesign) (design board : List ℕ) (by : PlanBy) (stimulus : List ℕ) (workers : ℕ) (unknown : Bool) where
+module _ (probes : List Word) (text : TextOver WatchedDesign) (design board : List ℕ) (by : PlanBy) (stimulus : List ℕ) (until : Bool) (workers : ℕ) (unknown : Bool) where
   -- its files: that of the plan, where one is given, before the stimulus
   abbrev pub its_files : Files vocabulary
   its_files = (files.Design, design) ∷ ((files.Board, board) ∷ with_given by ((files.Stimulus, stimulus) ∷ []))
@@ -31,10 +31,10 @@ module _ (probes : List Word) (text : TextOver WatchedDesign) (design board : Li
     pub planned : PlannedStatuses probes design board by call
     -- 0, 5, 7, 8 and 9, and that it completes: the text is one of the design, whatever the plan is, and links carry the words
     -- of one plan of these files, or a part of them
-    pub traced : TracedStatuses (designs probes design) text stimulus its_files IsReady (UsesBoard workers unknown (MaySpell probes design board by call.before.shelf.told)) call
+    pub traced : TracedStatuses (designs probes design) text stimulus its_files IsReady (UsesBoard until workers unknown (MaySpell probes design board by call.before.shelf.told)) call
     -- 0: each link has carried its script of one such plan
     pub on_links : (texts : PlanTexts) (s : List ℕ) → HoldTexts probes design board by call texts → Holds call stimulus s
-        → call.status ≡ 0 → CarriesAll probes workers unknown texts.design s (AreSpelled probes by texts) call
+        → call.status ≡ 0 → CarriesAll probes until workers unknown texts.design s (AreSpelled probes by texts) call
     -- it is done on such a plan alone
     pub done_planned : (texts : PlanTexts) → HoldTexts probes design board by call texts → call.status ≡ 0
         → (its : Plan) × IsTheirPlan probes by texts its

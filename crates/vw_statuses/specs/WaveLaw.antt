@@ -15,7 +15,7 @@ use Rattle.vw_statuses.specs.ReplayStatuses.{Replay, AreReplayed, replay_text}
 -- replaying the wave of the design of one text over the rows of another gives each output, probe and latch its bit at each
 -- clock; its last time is the number of clocks, and each value behind the first block is a change
 abbrev pub WavesReplay : Type 0
-WavesReplay = (probes : List Word) → length probes ≤ 64 → (d s : List ℕ) (unknown : Bool) (spelled : WatchedDesign) (rows : List (List Bool))
+WavesReplay = (probes : List Word) → length probes ≤ 65 → (d s : List ℕ) (unknown : Bool) (spelled : WatchedDesign) (rows : List (List Bool))
     → IsWatchedDesignOf probes d spelled → IsRowsOf (length (columns spelled.design)) s rows
     → ReplaysAs (wave_of probes unknown spelled rows) (length (signal_names probes spelled.design))
     (signal_rows (path_history spelled.design spelled.nets unknown rows))
@@ -23,7 +23,7 @@ WavesReplay = (probes : List Word) → length probes ≤ 64 → (d s : List ℕ)
 -- the wave over all rows from the state on that `save` writes of the first has at each of its clocks the bits that the design
 -- has there in the whole run; its first time is the state's clock
 abbrev pub ReplayedWavesReplay : Type 0
-ReplayedWavesReplay = (probes : List Word) → length probes ≤ 64 → (unknown : Bool) (d : List ℕ) (spelled plain : WatchedDesign) (rows more : List (List Bool)) (its : Replay)
+ReplayedWavesReplay = (probes : List Word) → length probes ≤ 65 → (unknown : Bool) (d : List ℕ) (spelled plain : WatchedDesign) (rows more : List (List Bool)) (its : Replay)
     → IsWatchedDesignOf probes d spelled → IsWatchedDesignOf [] d plain → length (rows ++ more) ≤ MOST_CLOCKS
     → AreReplayed probes (record { design = d; state = saved_of unknown plain rows }) its
     → ReplaysFrom (length rows) (replay_text (replayed_wave_of probes) its (rows ++ more)) (length (signal_names probes spelled.design))

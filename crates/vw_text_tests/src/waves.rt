@@ -59,7 +59,7 @@ fn wave_over(
         stimulus: &mut stimulus,
         shelf: &mut shelf,
     };
-    match write_wave(alloc, ordered, names, false, &mut rows, &mut out) {
+    match write_wave(alloc, ordered, names, false, false, &mut rows, &mut out) {
         Ok(()) => Ok(out.written),
         Err(_) => Err("a fault of the run".into()),
     }

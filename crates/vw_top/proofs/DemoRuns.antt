@@ -1,5 +1,5 @@
 -- A run over the generated texts as the course of a demo.
-use Rattle.std.proofs.Common.{◌≡◌, ◌≤◌, ◌∷◌, ℕ, zero, suc, List, [], Some, false, ◌∙◌, ap, ap₂, refl, subst, arith, if◌then◌else◌}
+use Rattle.std.proofs.Common.{◌≡◌, ◌≤◌, ◌∷◌, ℕ, zero, suc, List, [], Some, false, ◌∙◌, ap, ap₂, refl, subst, arith, if◌then◌else◌, None}
 use Rattle.std.specs.Global.{Vec}
 use Rattle.std.specs.Str.{bytes_eq}
 use Rattle.std.proofs.Math.Path.{fun_ext}
@@ -24,11 +24,11 @@ use Rattle.vw_courses.specs.Commands.{demo_course, demo_run, run_course}
 
 -- the names of the texts may be told otherwise
 pub named : (workers : ℕ) (design board stimulus : List ℕ) (P : Course vocabulary → Type 0) → design ≡ design_name → board ≡ board_name → stimulus ≡ stimulus_name
-    → P (run_course [] design board made_here stimulus workers false) → P (demo_run workers)
+    → P (run_course [] None design board made_here stimulus workers false) → P (demo_run workers)
 named workers design board stimulus P design_is board_is stimulus_is is =
-    subst (λ (s : List ℕ). P (run_course [] design_name board_name made_here s workers false)) stimulus_is
-    (subst (λ (b : List ℕ). P (run_course [] design_name b made_here stimulus workers false)) board_is
-    (subst (λ (d : List ℕ). P (run_course [] d board made_here stimulus workers false)) design_is is))
+    subst (λ (s : List ℕ). P (run_course [] None design_name board_name made_here s workers false)) stimulus_is
+    (subst (λ (b : List ℕ). P (run_course [] None design_name b made_here stimulus workers false)) board_is
+    (subst (λ (d : List ℕ). P (run_course [] None d board made_here stimulus workers false)) design_is is))
 
 -- no number of workers up to one uses links
 pub one_worker : (workers : ℕ) → workers ≤ 1 → demo_run 1 ≡ demo_run workers

@@ -13,7 +13,6 @@ use Rattle.vw_rows.specs.declared.fault.StimFault.TheVariants as rows_faults
 use Rattle.vw_rows.specs.declared.rereading.Rereading.{Rereading}
 use Rattle.vw_rows.specs.Rereadings.{SameShelf, seen_shelf}
 use Rattle.vw_rows.specs.Stimulus.{stimulus_rows, is_text_fault}
-use Rattle.vw_rows.specs.Standing.{GaveMore}
 use Rattle.vw_trace.specs.RunFaults.{run_fault_of, run_fault_of_rows}
 use Rattle.vw_trace.specs.Streamed.{MayBeRows, Streams, clocks_left}
 use Rattle.vw_trace.proofs.Streaming.{ends_unwritten, ends_unread}
@@ -31,13 +30,12 @@ module _ {S : Type 0} {read : shelves.Ghosts S} (rows after : Rereading S read) 
         are = some.are;
         ends = ends_unread rows.stimulus.now.name (Text some.whole) (seen_shelf rows) out (seen_shelf after) out fault (0, omega arith, sym (appended-nil out)) counts kept sure;
         count = tt;
-        given = tt;
         meanwhile = (0, tt);
       }
 
   module _ (these : List (List Bool)) (most : ℕ) (enough : rows.stimulus.now.clocks ≤ most) (kept : seen_shelf after ≡ seen_shelf rows)
       (are_next : (text : List ℕ) (all : List (List Bool)) → (seen_shelf rows).told rows.stimulus.now.name ≡ held text → stimulus_rows rows.stimulus.now.width text ≡ Ok all → these ≡ take most (drop rows.stimulus.now.done all))
-      (wide : All (λ row. length row ≡ rows.stimulus.now.width) these) (count : length these ≡ min most (clocks_left rows.stimulus.now)) (gave : GaveMore (length these) rows.stimulus.now after.stimulus.now) (out_after : SeenSink) where
+      (wide : All (λ row. length row ≡ rows.stimulus.now.width) these) (count : length these ≡ min most (clocks_left rows.stimulus.now)) (out_after : SeenSink) where
     -- they are all of them
     are : MayBeRows ((seen_shelf rows).told rows.stimulus.now.name) rows.stimulus.now these
     are = record {
@@ -58,7 +56,6 @@ module _ {S : Type 0} {read : shelves.Ghosts S} (rows after : Rereading S read) 
       are = are;
       ends = ends_unwritten rows.stimulus.now.name (Text these) (seen_shelf rows) out (seen_shelf after) out_after why kept failed;
       count = tt;
-      given = tt;
       meanwhile = (0, tt);
     }
 
@@ -70,6 +67,5 @@ module _ {S : Type 0} {read : shelves.Ghosts S} (rows after : Rereading S read) 
       are = are;
       ends = (kept, all);
       count = omega (arith, count, enough);
-      given = omega (arith, count, enough, gave.done, rows.stimulus.now.some_left);
       meanwhile = tt;
     }

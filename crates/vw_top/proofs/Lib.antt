@@ -3,3 +3,4 @@ pub mod DemoRuns
 pub mod GradedRows
 pub mod LinkTraffic
 pub mod StreamedTraces
+mod WorkedRows

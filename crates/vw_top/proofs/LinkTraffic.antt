@@ -1,5 +1,5 @@
 -- What the links of a planned board carry, by the number of workers.
-use Rattle.std.proofs.Common.{◌≡◌, ◌≤◌, ℕ, Bool, true, false, List, length, take, Some, None, if◌then◌else◌, refl, sym, ap, subst, arith}
+use Rattle.std.proofs.Common.{◌≡◌, ◌≤◌, ℕ, Bool, true, false, List, length, take, Some, None, if◌then◌else◌, refl, sym, ◌∙◌, ap, subst, arith}
 use Rattle.std.specs.Prelude.{ltb}
 use Rattle.std.proofs.Math.Path.{fun_ext}
 use Rattle.std.proofs.lemmas.Bool.{lt-ltb}
@@ -19,7 +19,9 @@ use Rattle.vw_batches.specs.Traffic.{words_from}
 use Rattle.vw_batches.proofs.LinkWords.{words_of_front}
 use Rattle.vw_courses.specs.Messages.{vocabulary}
 use Rattle.vw_courses.specs.Commands.{TextOver, Scripts, no_links, netlist_course, scripts_from, board_course}
+use Rattle.vw_trace.specs.Triggers.{worked}
 use Rattle.vw_top.proofs.StreamedTraces.{HaveParts}
+use Rattle.vw_top.proofs.WorkedRows.{worked_front}
 
 -- ---- the words of a planned board
 
@@ -28,18 +30,24 @@ module _ (planned : PlannedBoard) (first : ℕ) (state : List Bool) where
   words rows link = words_from planned link first state rows
 
   -- over the first rows links carry the first words
-  pub parts_from : (workers : ℕ) → HaveParts (scripts_from workers planned first state)
-  parts_from workers rows count = (counts, by (ltb workers 2)) where
-    counts : ℕ → ℕ
-    counts link = length (words (take count rows) link)
+  pub parts_from : (until : Bool) (workers : ℕ) → HaveParts (scripts_from until workers planned first state)
+  parts_from until workers rows count = (counts, by (ltb workers 2)) where
+    all : List (List Bool)
+    all = worked until planned.ordered.flat state rows
 
-    by : (one : Bool) → (if one then None else Some (words (take count rows))) ≡ fronts counts (if one then None else Some (words rows))
+    counts : ℕ → ℕ
+    counts link = length (words (take count all) link)
+
+    front : worked until planned.ordered.flat state (take count rows) ≡ take count all
+    front = worked_front until planned.ordered.flat state count rows
+
+    by : (one : Bool) → (if one then None else Some (words (worked until planned.ordered.flat state (take count rows)))) ≡ fronts counts (if one then None else Some (words all))
     by true = refl
-    by false = ap (λ (all : ℕ → List Word). Some all) (fun_ext (λ link. words_of_front planned link first state count rows))
+    by false = ap (λ (these : List (List Bool)). Some (words these)) front ∙ ap (λ (carried : ℕ → List Word). Some carried) (fun_ext (λ link. words_of_front planned link first state count all))
 
   -- one worker uses none
-  pub alone_from : (workers : ℕ) → workers ≤ 1 → scripts_from workers planned first state ≡ no_links
-  alone_from workers few = fun_ext (λ rows. ap (λ (one : Bool). if one then None else Some (words rows)) (lt-ltb workers 2 (omega (arith, few))))
+  pub alone_from : (until : Bool) (workers : ℕ) → workers ≤ 1 → scripts_from until workers planned first state ≡ no_links
+  alone_from until workers few = fun_ext (λ rows. ap (λ (one : Bool). if one then None else Some (words (worked until planned.ordered.flat state rows))) (lt-ltb workers 2 (omega (arith, few))))
 
 -- so a function that follows the course of a netlist without links follows that of a planned board with one worker
 module _ {S O : Type 0} (seen_shelf : S → SeenShelf) (seen_out : O → SeenSink) (Moved : Carried vocabulary.Word → Carried vocabulary.Word → Type 0) (stimulus : List ℕ) (unknown : Bool) (ordered : Ordered) (board : Board) (plan : Plan) (text : TextOver Ordered) where
@@ -49,8 +57,8 @@ module _ {S O : Type 0} (seen_shelf : S → SeenShelf) (seen_out : O → SeenSin
   abbrev start : List Bool
   start = start_values unknown ordered.flat.cells
 
-  pub goes_alone : (workers : ℕ) → workers ≤ 1 → {before after : Outside S O} {answer : Answer vocabulary}
+  pub goes_alone : (until : Bool) (workers : ℕ) → workers ≤ 1 → {before after : Outside S O} {answer : Answer vocabulary}
       → GoesOver seen_shelf seen_out vocabulary Moved (netlist_course stimulus text no_links ordered) before after answer
-      → GoesOver seen_shelf seen_out vocabulary Moved (board_course stimulus text workers unknown ordered board plan) before after answer
-  goes_alone workers few {before = before} {after = after} {answer = answer} goes =
-      subst (λ (scripts : Scripts). GoesOver seen_shelf seen_out vocabulary Moved (netlist_course stimulus text scripts ordered) before after answer) (sym (alone_from planned 0 start workers few)) goes
+      → GoesOver seen_shelf seen_out vocabulary Moved (board_course stimulus text until workers unknown ordered board plan) before after answer
+  goes_alone until workers few {before = before} {after = after} {answer = answer} goes =
+      subst (λ (scripts : Scripts). GoesOver seen_shelf seen_out vocabulary Moved (netlist_course stimulus text scripts ordered) before after answer) (sym (alone_from planned 0 start until workers few)) goes

@@ -33,7 +33,7 @@ use vw_course::{Outside, report};
 use vw_courses::{
     Command, PlainCommand, Reason, RuntimeCommand, Unfinished, command_of, probes_of,
 };
-use vw_files::{BoardFiles, PlanBy, Probes};
+use vw_files::{BoardFiles, PlanBy, Probes, Watched};
 use vw_outside::{BurstGate, Name, Shelf, Sink};
 use vw_prog::Fabric;
 use vw_statuses::{headline, promises};
@@ -53,29 +53,31 @@ fn carry_out<S: Shelf, O: Sink>(
             design,
             stimulus,
             unknown,
+            until,
             probes,
         } => {
             let probes = probes_of(alloc, probes)?;
-            let probes = Probes { nets: &probes };
-            sim(alloc, design, probes, stimulus, unknown, outside)
+            let watched = Watched::make(alloc, probes, until)?;
+            sim(alloc, design, watched.probes(), stimulus, unknown, outside)
         }
         PlainCommand::Wave {
             design,
             stimulus,
             unknown,
+            until,
             probes,
         } => {
             let probes = probes_of(alloc, probes)?;
-            let probes = Probes { nets: &probes };
-            wave(alloc, design, probes, stimulus, unknown, outside)
+            let watched = Watched::make(alloc, probes, until)?;
+            wave(alloc, design, watched.probes(), stimulus, unknown, outside)
         }
         PlainCommand::Replay(words) => {
             let probes = probes_of(alloc, words.probes)?;
-            let probes = Probes { nets: &probes };
+            let watched = Watched::make(alloc, probes, words.until)?;
             replay(
                 alloc,
                 words.design,
-                probes,
+                watched.probes(),
                 words.state,
                 words.stimulus,
                 outside,
@@ -83,11 +85,11 @@ fn carry_out<S: Shelf, O: Sink>(
         }
         PlainCommand::ReplayWave(words) => {
             let probes = probes_of(alloc, words.probes)?;
-            let probes = Probes { nets: &probes };
+            let watched = Watched::make(alloc, probes, words.until)?;
             replay_wave(
                 alloc,
                 words.design,
-                probes,
+                watched.probes(),
                 words.state,
                 words.stimulus,
                 outside,
@@ -95,7 +97,10 @@ fn carry_out<S: Shelf, O: Sink>(
         }
         PlainCommand::Nets { design, probes } => {
             let probes = probes_of(alloc, probes)?;
-            let probes = Probes { nets: &probes };
+            let probes = Probes {
+                nets: &probes,
+                until: false,
+            };
             nets(alloc, design, probes, outside)
         }
         PlainCommand::Check {
@@ -107,7 +112,10 @@ fn carry_out<S: Shelf, O: Sink>(
             let probes = probes_of(alloc, probes)?;
             let files = BoardFiles {
                 design,
-                probes: Probes { nets: &probes },
+                probes: Probes {
+                    nets: &probes,
+                    until: false,
+                },
                 board,
                 plan: PlanBy::Given(plan),
             };
@@ -122,7 +130,10 @@ fn carry_out<S: Shelf, O: Sink>(
             let probes = probes_of(alloc, probes)?;
             let files = BoardFiles {
                 design,
-                probes: Probes { nets: &probes },
+                probes: Probes {
+                    nets: &probes,
+                    until: false,
+                },
                 board,
                 plan: PlanBy::chips(chips),
             };
@@ -130,9 +141,10 @@ fn carry_out<S: Shelf, O: Sink>(
         }
         PlainCommand::Run(words) => {
             let probes = probes_of(alloc, words.probes)?;
+            let watched = Watched::make(alloc, probes, words.until)?;
             let files = BoardFiles {
                 design: words.design,
-                probes: Probes { nets: &probes },
+                probes: watched.probes(),
                 board: words.board,
                 plan: PlanBy::file(words.plan),
             };
@@ -147,7 +159,10 @@ fn carry_out<S: Shelf, O: Sink>(
             let probes = probes_of(alloc, probes)?;
             let files = BoardFiles {
                 design,
-                probes: Probes { nets: &probes },
+                probes: Probes {
+                    nets: &probes,
+                    until: false,
+                },
                 board,
                 plan: PlanBy::file(plan),
             };
@@ -160,7 +175,10 @@ fn carry_out<S: Shelf, O: Sink>(
         } => {
             let files = BoardFiles {
                 design,
-                probes: Probes { nets: &[] },
+                probes: Probes {
+                    nets: &[],
+                    until: false,
+                },
                 board,
                 plan: PlanBy::file(plan),
             };
@@ -188,9 +206,10 @@ fn carry_out_together<R: Threads + Wait + Sync, S: Shelf, F: Fabric, G: BurstGat
     match command {
         RuntimeCommand::Run { words, several } => {
             let probes = probes_of(alloc, words.probes)?;
+            let watched = Watched::make(alloc, probes, words.until)?;
             let files = BoardFiles {
                 design: words.design,
-                probes: Probes { nets: &probes },
+                probes: watched.probes(),
                 board: words.board,
                 plan: PlanBy::file(words.plan),
             };
@@ -205,10 +224,12 @@ fn carry_out_together<R: Threads + Wait + Sync, S: Shelf, F: Fabric, G: BurstGat
             workers,
             unknown,
             every,
+            until,
         } => {
+            let watched = Watched::make(alloc, Vec::new(alloc), until)?;
             let files = BoardFiles {
                 design,
-                probes: Probes { nets: &[] },
+                probes: watched.probes(),
                 board,
                 plan: PlanBy::file(plan),
             };
@@ -222,12 +243,14 @@ fn carry_out_together<R: Threads + Wait + Sync, S: Shelf, F: Fabric, G: BurstGat
             stimulus,
             plan,
             workers,
+            until,
             probes,
         } => {
             let probes = probes_of(alloc, probes)?;
+            let watched = Watched::make(alloc, probes, until)?;
             let files = BoardFiles {
                 design,
-                probes: Probes { nets: &probes },
+                probes: watched.probes(),
                 board,
                 plan: PlanBy::file(plan),
             };

@@ -1,5 +1,5 @@
 //! The command `demo`: a run of generated texts in memory, of whose trace a summary is written.
-ghost use Rattle.std.specs.Prelude.{◌≡◌, ◌≤◌, [], ℕ, List, false, IfOk};
+ghost use Rattle.std.specs.Prelude.{◌≡◌, ◌≤◌, [], ℕ, List, None, false, IfOk};
 ghost use Rattle.vw_course.specs.Goes.{Goes, GoesOver, IsFollowed, MovedFrom, Unmoved};
 ghost use Rattle.vw_course.specs.OnTexts.{EndsSummed};
 ghost use Rattle.vw_outside.specs.Memory.{seen_sink};
@@ -95,11 +95,14 @@ fn run_alone<S: Shelf, O: Sink>(
     outside: &mut Outside<'_, '_, S, O>,
 ) -> Result<(), Unfinished>
     ensures { Goes S.seen O.seen vocabulary
-        (run_course [] design.now board.now made_here stimulus.now 1 false) outside.old outside.new result }
+        (run_course [] None design.now board.now made_here stimulus.now 1 false) outside.old outside.new result }
 {
     let files = BoardFiles {
         design,
-        probes: Probes { nets: &[] },
+        probes: Probes {
+            nets: &[],
+            until: false,
+        },
         board,
         plan: PlanBy::Made,
     };
@@ -116,7 +119,7 @@ fn run_named_by_one(
     trace: &mut MemSink,
 ) -> Result<(), Unfinished>
     ensures { IsFollowed vocabulary Unmoved
-        (run_course [] design.now board.now made_here stimulus.now 1 false)
+        (run_course [] None design.now board.now made_here stimulus.now 1 false)
         (seen_sure shelf.old.files.items) (seen_sink trace.old)
         (seen_sure shelf.new.files.items) (seen_sink trace.new) result }
 {
@@ -137,13 +140,16 @@ fn run_named_by_several<R: Threads + Wait + Sync, F: Fabric, G: BurstGate>(
     ensures fabric { floor.new.fabric.ghost_name ≡ floor.old.fabric.ghost_name }
     ensures goes { IsFollowed vocabulary
         (MovedFrom (F.carried floor.old.fabric.now) (F.carried floor.new.fabric.now))
-        (run_course [] design.now board.now made_here stimulus.now floor.old.workers false)
+        (run_course [] None design.now board.now made_here stimulus.now floor.old.workers false)
         (seen_sure shelf.old.files.items) (seen_sink trace.old)
         (seen_sure shelf.new.files.items) (seen_sink trace.new) result }
 {
     let files = BoardFiles {
         design,
-        probes: Probes { nets: &[] },
+        probes: Probes {
+            nets: &[],
+            until: false,
+        },
         board,
         plan: PlanBy::Made,
     };

@@ -115,7 +115,10 @@ pub fn grade<R: Threads + Sync, S: Shelf, O: Sink>(
     ensures { Goes S.seen O.seen vocabulary (grade_course (share_view settings) design.now stimulus.now settings.unknown)
         outside.old outside.new result }
 {
-    let none = Probes { nets: &[] };
+    let none = Probes {
+        nets: &[],
+        until: false,
+    };
     let named = read_named_design(alloc, outside.shelf, design, none)?;
     grade_netlist(rt, alloc, named, stimulus, settings, outside)
 }

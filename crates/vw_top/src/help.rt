@@ -20,23 +20,22 @@ vwires: a compiler and an emulator for logic emulators of many FPGAs\n\
 usage: vwires COMMAND FILE.. [SETTING..]\n\
 \n\
 \x20 sim DESIGN STIM             runs a design, and writes its trace\n\
-\x20     [unknown=0|1] [replay=STATE] [probe=NET]..\n\
+\x20     [unknown=0|1] [replay=STATE] [until=NET] [probe=NET]..\n\
 \x20 wave DESIGN STIM            runs a design, and writes its waveform (VCD)\n\
-\x20     [unknown=0|1] [replay=STATE] [probe=NET]..\n\
+\x20     [unknown=0|1] [replay=STATE] [until=NET] [probe=NET]..\n\
 \x20 grade DESIGN STIM           writes which stuck nets a stimulus does not reveal\n\
 \x20     [workers=N] [unknown=0|1] [part=K/N]\n\
 \x20 nets DESIGN [probe=NET]..   writes the nets and the cells of a design\n\
 \x20 check DESIGN BOARD PLAN [probe=NET]..  checks a plan, and writes its size\n\
-\x20 plan DESIGN BOARD           makes a plan, and writes it\n\
-\x20     [chips=FILE] [probe=NET]..\n\
+\x20 plan DESIGN BOARD [chips=FILE] [probe=NET]..  makes a plan, and writes it\n\
 \x20 report DESIGN BOARD         writes a plan in numbers and names, with a bound\n\
 \x20     [plan=FILE] [probe=NET]..\n\
 \x20 run DESIGN BOARD STIM       runs a design on a board, and writes its trace\n\
-\x20     [plan=FILE] [workers=N] [unknown=0|1] [probe=NET]..\n\
+\x20     [plan=FILE] [workers=N] [unknown=0|1] [until=NET] [probe=NET]..\n\
 \x20 save DESIGN BOARD STIM      runs a design on a board, and writes its state\n\
-\x20     [plan=FILE] [workers=N] [unknown=0|1] [every=N]\n\
+\x20     [plan=FILE] [workers=N] [unknown=0|1] [every=N] [until=NET]\n\
 \x20 resume DESIGN BOARD STATE STIM  goes on from a state, and writes the trace\n\
-\x20     [plan=FILE] [workers=N] [unknown=0|1] [probe=NET]..\n\
+\x20     [plan=FILE] [workers=N] [unknown=0|1] [until=NET] [probe=NET]..\n\
 \x20 emit DESIGN BOARD [plan=FILE]  writes a planned board as a design in BLIF\n\
 \x20 demo CELLS                  runs a generated design of 1 to 20000 cells on\n\
 \x20     [workers=N]             a generated board, and writes a summary\n\
@@ -54,6 +53,7 @@ usage: vwires COMMAND FILE.. [SETTING..]\n\
 \x20 plan=FILE      the plan to run by (one is made)\n\
 \x20 chips=FILE     the chip of each cell, as in a plan (they are chosen)\n\
 \x20 replay=STATE   the state to go on from, over the rows behind it (the start)\n\
+\x20 until=NET      ends behind the first clock in which NET is 1 (behind the last)\n\
 \x20 every=N        a state for each N clocks, too (only one at the end)\n\
 \x20 part=K/N       the Kth of N shares of the faults, N up to 65536 (all)\n\
 \x20 workers=N      how many threads run the chips or grade, 1 to 64 (4)\n\

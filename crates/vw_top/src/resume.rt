@@ -4,12 +4,13 @@ ghost use Rattle.vw_course.specs.Goes.{GoesOver, MovedFrom};
 ghost use Rattle.vw_course.specs.Stages.{EndsJudging};
 ghost use Rattle.vw_net.specs.Cells.{latch_count};
 ghost use Rattle.vw_plan.specs.PlannedBoard.{planned_board};
-ghost use Rattle.vw_resume.specs.Resumed.{without_state};
+ghost use Rattle.vw_trace.specs.Triggers.{shown_count};
 ghost use Rattle.vw_rows.specs.declared.limits.TheConstants.{MOST_CLOCKS};
 ghost use Rattle.vw_courses.specs.Commands.{ready_course, resume_rest, state_course};
 ghost use Rattle.vw_courses.specs.Messages.{vocabulary};
 ghost use Rattle.vw_files.specs.Ready.{by_of};
-ghost use Rattle.vw_top.specs.Stages.{EndsClocks, run_answer};
+ghost use Rattle.vw_files.specs.Watched.{shown_words};
+ghost use Rattle.vw_top.specs.Stages.{EndsClocks};
 
 use crate::answer::run_answer;
 use crate::latches::latch_count;
@@ -24,7 +25,7 @@ use vw_files::{BoardFiles, check_rows, read_state, ready_board};
 use vw_outside::{BurstGate, Name, Shelf, Sink};
 use vw_plan::Checked;
 use vw_prog::Fabric;
-use vw_resume::{ResumeFault, State, StateFault, run_watched_from};
+use vw_resume::{State, StateFault, run_watched_from};
 use vw_rows::{MOST_CLOCKS, Rereading};
 
 /// Whether so many clocks can follow those before a state: a trace numbers no more than 4,294,967,295.
@@ -40,34 +41,26 @@ fn clocks_fit(before: u64, clocks: u64) -> Result<(), Unfinished>
     Ok(())
 }
 
-/// The answer of a command that ran on to a state, or that stopped while it did.
-fn state_answer(ran: Result<State, ResumeFault>) -> Result<(), Unfinished>
-    ensures { result ≡ run_answer (without_state ran) }
-{
-    match ran {
-        Ok(_) => Ok(()),
-        Err(fault) => run_answer(Err(fault)),
-    }
-}
-
 /// Checks the stimulus, and that its clocks can follow those of the state. Then it runs a planned design over it from the
-/// state on, as it is read again, and writes the trace. So many last outputs are probes. The workers of the floor run it.
+/// state on, as it is read again, and writes the trace. So many last outputs are probes, but for a trigger behind them. The workers
+/// of the floor run it.
 fn resume_state<R: Threads + Wait + Sync, S: Shelf, F: Fabric, G: BurstGate, O: Sink>(
     alloc: Global,
     checked: Checked,
     probes: u32,
+    until: bool,
     state: State,
     stimulus: &Name,
     floor: &mut Floor<'_, '_, '_, R, F, G>,
     outside: &mut Outside<'_, '_, S, O>,
 ) -> Result<(), Unfinished>
-    requires probes { probes ≤ length checked.ordered.flat.outputs }
+    requires probes { probes ≤ shown_count until (length checked.ordered.flat.outputs) }
     requires few { state.clock ≤ MOST_CLOCKS }
     requires latches { length state.latches ≡ latch_count checked.ordered.flat.cells }
     ensures fabric { floor.new.fabric.ghost_name ≡ floor.old.fabric.ghost_name }
     ensures goes { GoesOver S.seen O.seen vocabulary
         (MovedFrom (F.carried floor.old.fabric.now) (F.carried floor.new.fabric.now))
-        (state_course probes stimulus.now floor.old.workers
+        (state_course until probes stimulus.now floor.old.workers
         (planned_board checked.ordered checked.board checked.plan) state)
         outside.old outside.new result }
 {
@@ -81,12 +74,13 @@ fn resume_state<R: Threads + Wait + Sync, S: Shelf, F: Fabric, G: BurstGate, O: 
         alloc,
         checked,
         probes,
+        until,
         state,
         floor,
         &mut again,
         outside.out,
     );
-    state_answer(ran)
+    run_answer(ran)
 }
 
 /// Reads the state of a planned design, and goes on from it.
@@ -94,25 +88,29 @@ fn resume_checked<R: Threads + Wait + Sync, S: Shelf, F: Fabric, G: BurstGate, O
     alloc: Global,
     checked: Checked,
     probes: u32,
+    until: bool,
     state: &Name,
     stimulus: &Name,
     floor: &mut Floor<'_, '_, '_, R, F, G>,
     outside: &mut Outside<'_, '_, S, O>,
 ) -> Result<(), Unfinished>
-    requires probes { probes ≤ length checked.ordered.flat.outputs }
+    requires probes { probes ≤ shown_count until (length checked.ordered.flat.outputs) }
     ensures fabric { floor.new.fabric.ghost_name ≡ floor.old.fabric.ghost_name }
     ensures goes { GoesOver S.seen O.seen vocabulary
         (MovedFrom (F.carried floor.old.fabric.now) (F.carried floor.new.fabric.now))
-        (resume_rest probes state.now stimulus.now floor.old.workers checked.ordered checked.board checked.plan)
+        (resume_rest until probes state.now stimulus.now floor.old.workers checked.ordered checked.board checked.plan)
         outside.old outside.new result }
 {
     let latches = latch_count(checked.ordered().flat().cells());
     let state = read_state(alloc, outside.shelf, state, latches)?;
-    resume_state(alloc, checked, probes, state, stimulus, floor, outside)
+    resume_state(
+        alloc, checked, probes, until, state, stimulus, floor, outside,
+    )
 }
 
 /// Runs a design on a board over a stimulus from a state on, by the plan that is given or by one that is made, and writes
-/// its trace with the nets that the probes find, whose clocks are numbered from the state's clock on.
+/// its trace with the nets that the probes find, whose clocks are numbered from the state's clock on. Where there is a trigger, it
+/// ends there.
 pub fn resume<R: Threads + Wait + Sync, S: Shelf, F: Fabric, G: BurstGate, O: Sink>(
     alloc: Global,
     files: &BoardFiles<'_, '_, '_, '_>,
@@ -126,10 +124,14 @@ pub fn resume<R: Threads + Wait + Sync, S: Shelf, F: Fabric, G: BurstGate, O: Si
         (MovedFrom (F.carried floor.old.fabric.now) (F.carried floor.new.fabric.now))
         (ready_course files.now.probes.nets.now files.now.design.now files.now.board.now
         (by_of files.now.plan)
-        (resume_rest (length files.now.probes.nets.now) state.now stimulus.now floor.old.workers))
+        (resume_rest files.now.probes.until (length (shown_words files.now.probes.until files.now.probes.nets.now))
+        state.now stimulus.now floor.old.workers))
         outside.old outside.new result }
 {
     let checked = ready_board(alloc, files, outside.shelf)?;
-    let probes = files.probes.nets.len() as u32;
-    resume_checked(alloc, checked, probes, state, stimulus, floor, outside)
+    let shown = files.probes.count();
+    let until = files.probes.until;
+    resume_checked(
+        alloc, checked, shown, until, state, stimulus, floor, outside,
+    )
 }

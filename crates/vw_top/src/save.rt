@@ -5,7 +5,8 @@ ghost use Rattle.vw_plan.specs.PlannedBoard.{planned_board};
 ghost use Rattle.vw_trace.specs.Streamed.{Streams};
 ghost use Rattle.vw_batches.specs.Traffic.{HaveCarried};
 ghost use Rattle.vw_course.specs.Goes.{GoesOver, MovedFrom};
-ghost use Rattle.vw_courses.specs.Commands.{board_course, netlist_state, over_rows_course, texts_kept};
+ghost use Rattle.vw_trace.specs.Triggers.{worked};
+ghost use Rattle.vw_courses.specs.Commands.{board_course, netlist_counted, netlist_state, over_rows_course, texts_kept};
 ghost use Rattle.vw_courses.specs.Messages.{vocabulary};
 ghost use Rattle.vw_files.specs.Ready.{by_of};
 
@@ -25,11 +26,13 @@ use vw_resume::save_every;
 use vw_rows::Rereading;
 use vw_trace::RunFault;
 
-/// Runs a planned design over all rows that a stimulus still gives, and writes the state after its last clock, and, where an
+/// Runs a planned design over all rows that a stimulus still gives, with `until` up to its trigger, and writes the state after its
+/// last clock, and, where an
 /// interval is given, the states behind each so many clocks.
 fn write_states<R: Threads + Wait + Sync, S: Shelf, F: Fabric, G: BurstGate, O: Sink>(
     alloc: Global,
     checked: Checked,
+    until: bool,
     unknown: bool,
     every: Option<Interval>,
     floor: &mut Floor<'_, '_, '_, R, F, G>,
@@ -40,14 +43,28 @@ fn write_states<R: Threads + Wait + Sync, S: Shelf, F: Fabric, G: BurstGate, O: 
     ensures shelf { rows.new.shelf.ghost_name ≡ rows.old.shelf.ghost_name }
     ensures fabric { floor.new.fabric.ghost_name ≡ floor.old.fabric.ghost_name }
     ensures streams { let planned = planned_board checked.ordered checked.board checked.plan in
-        Streams (texts_kept (option_map (λ interval. interval.clocks) every) (netlist_state unknown) checked.ordered)
-        (HaveCarried floor.old.workers planned 0 (start_values unknown checked.ordered.flat.cells)
-        (F.carried floor.old.fabric.now) (F.carried floor.new.fabric.now))
+        Streams (netlist_counted until unknown
+        (texts_kept (option_map (λ interval. interval.clocks) every) (netlist_state unknown)) checked.ordered)
+        (λ these. let start = start_values unknown checked.ordered.flat.cells in
+        HaveCarried floor.old.workers planned 0 start
+        (F.carried floor.old.fabric.now) (F.carried floor.new.fabric.now)
+        (worked until checked.ordered.flat start these))
         rows.old rows.new (O.seen out.old) (O.seen out.new) result }
 {
     match every {
-        Some(interval) => { save_every(alloc, checked, unknown, interval.clocks, floor, rows, out) }
-        None => vw_resume::save(alloc, checked, unknown, floor, rows, out),
+        Some(interval) => {
+            save_every(
+                alloc,
+                checked,
+                until,
+                unknown,
+                interval.clocks,
+                floor,
+                rows,
+                out,
+            )
+        }
+        None => vw_resume::save(alloc, checked, until, unknown, floor, rows, out),
     }
 }
 
@@ -55,6 +72,7 @@ fn write_states<R: Threads + Wait + Sync, S: Shelf, F: Fabric, G: BurstGate, O: 
 fn save_checked<R: Threads + Wait + Sync, S: Shelf, F: Fabric, G: BurstGate, O: Sink>(
     alloc: Global,
     checked: Checked,
+    until: bool,
     stimulus: &Name,
     unknown: bool,
     every: Option<Interval>,
@@ -64,8 +82,9 @@ fn save_checked<R: Threads + Wait + Sync, S: Shelf, F: Fabric, G: BurstGate, O: 
     ensures fabric { floor.new.fabric.ghost_name ≡ floor.old.fabric.ghost_name }
     ensures goes { GoesOver S.seen O.seen vocabulary
         (MovedFrom (F.carried floor.old.fabric.now) (F.carried floor.new.fabric.now))
-        (board_course stimulus.now
-        (texts_kept (option_map (λ interval. interval.clocks) every) (netlist_state unknown)) floor.old.workers unknown checked.ordered
+        (board_course stimulus.now (netlist_counted until unknown
+        (texts_kept (option_map (λ interval. interval.clocks) every) (netlist_state unknown)))
+        until floor.old.workers unknown checked.ordered
         checked.board checked.plan)
         outside.old outside.new result }
 {
@@ -77,6 +96,7 @@ fn save_checked<R: Threads + Wait + Sync, S: Shelf, F: Fabric, G: BurstGate, O: 
     let saved = write_states(
         alloc,
         checked,
+        until,
         unknown,
         every,
         floor,
@@ -101,10 +121,20 @@ pub fn save<R: Threads + Wait + Sync, S: Shelf, F: Fabric, G: BurstGate, O: Sink
     ensures goes { GoesOver S.seen O.seen vocabulary
         (MovedFrom (F.carried floor.old.fabric.now) (F.carried floor.new.fabric.now))
         (over_rows_course files.now.probes.nets.now files.now.design.now files.now.board.now
-        (by_of files.now.plan) stimulus.now
-        (texts_kept (option_map (λ interval. interval.clocks) every) (netlist_state unknown)) floor.old.workers unknown)
+        (by_of files.now.plan) stimulus.now (netlist_counted files.now.probes.until unknown
+        (texts_kept (option_map (λ interval. interval.clocks) every) (netlist_state unknown)))
+        files.now.probes.until floor.old.workers unknown)
         outside.old outside.new result }
 {
     let checked = ready_board(alloc, files, outside.shelf)?;
-    save_checked(alloc, checked, stimulus, unknown, every, floor, outside)
+    save_checked(
+        alloc,
+        checked,
+        files.probes.until,
+        stimulus,
+        unknown,
+        every,
+        floor,
+        outside,
+    )
 }

@@ -4,3 +4,5 @@ pub mod StreamedTexts
 pub mod RecordedBatches
 pub mod Silence
 pub mod MergedTraces
+pub mod Triggered
+pub mod TriggeredBatches

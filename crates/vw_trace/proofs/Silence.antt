@@ -1,5 +1,5 @@
 -- What a recorder that waits for its end leaves of out before that.
-use Rattle.std.proofs.Common.{◌≡◌, ◌∙◌, ℕ, Bool, true, false, List, [], Result, Ok, Err, ap, subst}
+use Rattle.std.proofs.Common.{◌≡◌, ◌∙◌, ℕ, Bool, true, false, List, [], Result, Ok, Err, refl, ap, subst}
 use Rattle.std.specs.Prelude.{OnOk}
 use Rattle.std.specs.Bool.{OnTrue}
 use Rattle.vw_outside.specs.declared.unwritten.Unwritten.{Unwritten}
@@ -30,6 +30,11 @@ silent_batch false made before after answer none wrote = tt
 pub silent_further : (waits other : Bool) → other ≡ waits → (first mid last : SeenSink) → OnTrue waits (mid ≡ first) → OnTrue other (last ≡ mid) → OnTrue waits (last ≡ first)
 silent_further true other same first mid last one two = subst (λ (b : Bool). OnTrue b (last ≡ mid)) same two ∙ one
 silent_further false other same first mid last one two = tt
+
+-- a batch in which the run doesn't end
+pub silent_open : (waits : Bool) (before after : SeenSink) → OnTrue waits (false ≡ false → after ≡ before) → OnTrue waits (after ≡ before)
+silent_open true before after same = same refl
+silent_open false before after same = tt
 
 -- rows couldn't be read
 unread : (before after : SeenSink) (fault : StimFault) → after ≡ before → StopsSilently before after (Err (run_fault_of_rows fault))

@@ -1,6 +1,5 @@
 -- A text that is written while a checked stimulus is read again: what stops it before its first clock, and a text in front of the clocks.
 use Rattle.std.proofs.Common.{◌≡◌, ◌++◌, ◌∙◌, ℕ, Bool, List, [], length, take, Result, Ok, Err, refl, sym, ap, subst, append-nil, arith}
-use Rattle.std.specs.Prelude.{OnOk}
 use Rattle.std.proofs.lemmas.List.Elements.{All-nil}
 use Rattle.vw_outside.specs.declared.shelf.Shelf as shelves
 use Rattle.vw_outside.specs.declared.unwritten.Unwritten.{Unwritten}
@@ -10,10 +9,10 @@ use Rattle.vw_rows.specs.declared.rereading.Rereading.{Rereading}
 use Rattle.vw_rows.specs.Rereadings.{seen_shelf}
 use Rattle.vw_trace.specs.declared.fault.RunFault.{RunFault}
 use Rattle.vw_trace.specs.declared.fault.RunFault.TheVariants.{ReadFault, WriteFault, Stimulus as BadRows, NoMemory}
-use Rattle.vw_trace.specs.Engines.{SeenEngine, engine_after, history_of}
+use Rattle.vw_trace.specs.Engines.{SeenEngine}
 use Rattle.vw_trace.specs.Recorders.{SeenRecorder}
 use Rattle.vw_trace.specs.RunFaults.{run_fault_of}
-use Rattle.vw_trace.specs.Streamed.{EndsStreaming, DoneFor, Records, Streams}
+use Rattle.vw_trace.specs.Streamed.{DoneBy, EndsStreaming, DoneFor, Records, Streams, shown_by}
 use Rattle.vw_trace.proofs.Streaming.{BeginWith, begin_with, ends_unwritten}
 
 -- rows that the stimulus may have
@@ -33,7 +32,6 @@ module _ {S : Type 0} {shelf : shelves.Ghosts S} (rows : Rereading S shelf) (Tex
     are = some.are;
     ends = (refl, (0, omega arith, sym (appended-nil out)));
     count = tt;
-    given = tt;
     meanwhile = (0, none);
   }
 
@@ -48,7 +46,6 @@ module _ {S : Type 0} {shelf : shelves.Ghosts S} (rows : Rereading S shelf) (Tex
         (unwritten_in_piece out (Text some.whole) out after head (behind some.whole) why
         (subst (λ (text : List ℕ). IsLeft out (Text some.whole) out text) (sym (is some.whole)) (nothing_written out (Text some.whole))) failed);
     count = tt;
-    given = tt;
     meanwhile = (0, none);
   }
 
@@ -66,19 +63,18 @@ streams_as {before = before} {after = after} {out = out} {out_after = out_after}
   are = streams.are;
   ends = subst (λ (written : List ℕ). EndsStreaming before.stimulus.now.name written (seen_shelf before) out (seen_shelf after) out_after answer) (text streams.rows) streams.ends;
   count = streams.count;
-  given = streams.given;
   meanwhile = done_so so streams.rows answer streams.meanwhile;
 }
 
-module _ {S : Type 0} {shelf : shelves.Ghosts S} {Done Other : List (List Bool) → Type 0} {rows rows_after : Rereading S shelf} {engine engine_now : SeenEngine}
+module _ {S : Type 0} {shelf : shelves.Ghosts S} {until : Bool} {Done Other : List (List Bool) → Type 0} {rows rows_after : Rereading S shelf} {engine engine_now : SeenEngine}
     {recorder : SeenRecorder} {mid out_after : SeenSink} {answer : Result (Unit {0}) RunFault} where
   -- a text in front of the clocks was written
-  pub headed : (head : List ℕ) (Text : List (List Bool) → List ℕ) (out : SeenSink) → mid ≡ appended out head → ((these : List (List Bool)) → head ++ recorder.left (history_of engine these) ≡ Text these)
-      → ((these : List (List Bool)) → Done these × OnOk answer (engine_now ≡ engine_after engine these) → Other these) → Records Done rows rows_after engine engine_now recorder mid out_after answer
+  pub headed : (head : List ℕ) (Text : List (List Bool) → List ℕ) (out : SeenSink) → mid ≡ appended out head → ((these : List (List Bool)) → head ++ recorder.left (shown_by until engine these) ≡ Text these)
+      → ((these : List (List Bool)) → DoneBy until Done engine engine_now answer these → Other these) → Records until Done rows rows_after engine engine_now recorder mid out_after answer
       → Streams Text Other rows rows_after out out_after answer
   headed head Text out wrote is so records =
       let streams = records.streams in
-      let left : List ℕ = recorder.left (history_of engine streams.rows) in
+      let left : List ℕ = recorder.left (shown_by until engine streams.rows) in
       let begun : IsLeft out (Text streams.rows) mid left =
       written_further out (Text streams.rows) out mid head left (subst (λ (text : List ℕ). IsLeft out (Text streams.rows) out text) (sym (is streams.rows)) (nothing_written out (Text streams.rows))) wrote in
       record {
@@ -87,7 +83,6 @@ module _ {S : Type 0} {shelf : shelves.Ghosts S} {Done Other : List (List Bool) 
         are = streams.are;
         ends = ends_by (Text streams.rows) left (is streams.rows) begun answer streams.ends;
         count = streams.count;
-        given = streams.given;
         meanwhile = done_so so streams.rows answer streams.meanwhile;
       } where
         to_end : (text left : List ℕ) → IsLeft out text mid left → IsLeft out text mid (left ++ [])

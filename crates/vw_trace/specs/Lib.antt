@@ -5,3 +5,5 @@ pub mod Streamed
 pub mod Recorded
 pub mod Engines
 pub mod Recorders
+pub mod Triggers
+pub mod Batches

@@ -9,6 +9,7 @@ use Rattle.vw_outside.specs.Writes.{SeenSink, WritesOut}
 use Rattle.vw_trace.specs.declared.engine.Batch.{Batch}
 use Rattle.vw_trace.specs.Engines.{SeenEngine}
 use Rattle.vw_trace.specs.Recorded.{clocks_before}
+use Rattle.vw_trace.specs.Triggers.{shown_count}
 
 -- a recorder between two clocks
 pub record SeenRecorder : Type 0 where
@@ -22,9 +23,9 @@ pub record SeenRecorder : Type 0 where
   -- whether it writes nothing before its end
   pub waits : Bool
 
--- its next clock is that of an engine, with as many outputs and latches
-pub record IsOf (engine : SeenEngine) (recorder : SeenRecorder) : Type 0 where
-  pub outputs : recorder.outputs ≡ length engine.netlist.outputs
+-- its next clock is that of an engine, with as many latches, and as many outputs as are shown
+pub record IsOf (until : Bool) (engine : SeenEngine) (recorder : SeenRecorder) : Type 0 where
+  pub outputs : recorder.outputs ≡ shown_count until (length engine.netlist.outputs)
   pub latches : recorder.latches ≡ latch_count engine.netlist.cells
   pub clock : recorder.clock ≡ engine.clock
 

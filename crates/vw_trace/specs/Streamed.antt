@@ -10,8 +10,10 @@ use Rattle.vw_rows.specs.declared.rereading.Rereading.{Rereading}
 use Rattle.vw_rows.specs.declared.stimulus.Stimulus.{Stimulus}
 use Rattle.vw_rows.specs.Rereadings.{SameShelf, seen_shelf}
 use Rattle.vw_rows.specs.Stimulus.{stimulus_rows, is_text_fault}
-use Rattle.vw_trace.specs.Engines.{SeenEngine, engine_after, history_of}
+use Rattle.vw_net.specs.History.{History}
+use Rattle.vw_trace.specs.Engines.{SeenEngine, engine_after}
 use Rattle.vw_trace.specs.Recorders.{SeenRecorder}
+use Rattle.vw_trace.specs.Triggers.{shown_history, worked}
 use Rattle.vw_trace.specs.declared.fault.RunFault.{RunFault}
 use Rattle.vw_trace.specs.declared.fault.RunFault.TheVariants.{ReadFault, WriteFault, Stimulus as BadRows, NoMemory}
 
@@ -51,7 +53,6 @@ pub record Streams {S : Type 0} {shelf : shelves.Ghosts S} (Text : List (List Bo
   pub are : MayBeRows ((seen_shelf before).told before.stimulus.now.name) before.stimulus.now rows
   pub ends : EndsStreaming before.stimulus.now.name (Text rows) (seen_shelf before) out (seen_shelf after) out_after answer
   pub count : OnOk answer (length rows ≡ clocks_left before.stimulus.now)
-  pub given : OnOk answer (after.stimulus.now.done ≡ before.stimulus.now.clocks)
   pub meanwhile : DoneFor Done rows answer
 
 -- the rows of a stimulus can be the next ones of an engine
@@ -67,10 +68,22 @@ StopsSilently out out_after (Err (BadRows fault)) = out_after ≡ out
 StopsSilently out out_after (Err WriteFault) = Unit {0}
 StopsSilently out out_after (Err NoMemory) = Unit {0}
 
--- an engine has worked out the rows that a stimulus still gives, and what a recorder makes of them was written, or a part of it; a
--- recorder that waits wrote nothing before its end
-pub record Records {S : Type 0} {shelf : shelves.Ghosts S} (Done : List (List Bool) → Type 0) (rows rows_after : Rereading S shelf) (engine engine_now : SeenEngine)
+-- what an engine shows over some rows, and those that it works out; with `until` its last output is a trigger
+abbrev pub shown_by : Bool → SeenEngine → List (List Bool) → History
+shown_by until engine rows = shown_history until engine.netlist engine.state rows
+
+abbrev pub worked_by : Bool → SeenEngine → List (List Bool) → List (List Bool)
+worked_by until engine rows = worked until engine.netlist engine.state rows
+
+-- so much is done for the rows that are worked out, after which the engine stands behind them
+abbrev pub DoneBy : Bool → (List (List Bool) → Type 0) → SeenEngine → SeenEngine → Result (Unit {0}) RunFault → List (List Bool) → Type 0
+DoneBy until Done engine engine_now answer rows =
+    Done (worked_by until engine rows) × OnOk answer (engine_now ≡ engine_after engine (worked_by until engine rows))
+
+-- an engine has worked out the rows that a stimulus still gives, as far as they count, and what a recorder makes of them was written, or
+-- a part of it; a recorder that waits wrote nothing before its end
+pub record Records {S : Type 0} {shelf : shelves.Ghosts S} (until : Bool) (Done : List (List Bool) → Type 0) (rows rows_after : Rereading S shelf) (engine engine_now : SeenEngine)
     (recorder : SeenRecorder) (out out_after : SeenSink) (answer : Result (Unit {0}) RunFault) : Type 0 where
-  pub streams : Streams (λ these. recorder.left (history_of engine these)) (λ these. Done these × OnOk answer (engine_now ≡ engine_after engine these))
+  pub streams : Streams (λ these. recorder.left (shown_by until engine these)) (DoneBy until Done engine engine_now answer)
       rows rows_after out out_after answer
   pub silent : OnTrue recorder.waits (StopsSilently out out_after answer)

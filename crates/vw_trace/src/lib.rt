@@ -11,6 +11,7 @@ mod recorder;
 mod simulation;
 mod trace;
 mod trace_recorder;
+mod trigger;
 
 pub use engine::{Batch, Engine};
 pub use fault::RunFault;
@@ -18,5 +19,6 @@ pub use merged::merged_before;
 pub use record::{BATCH, record_run};
 pub use recorder::{Recorder, write_batch};
 pub use simulation::Simulation;
-pub use trace::{write_head, write_trace, write_trace_by};
+pub use trace::{shown_count, write_head, write_trace, write_trace_by};
 pub use trace_recorder::TraceRecorder;
+pub use trigger::write_clocks;

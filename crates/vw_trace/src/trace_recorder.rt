@@ -20,17 +20,17 @@ pub struct TraceRecorder {
 }
 
 impl TraceRecorder {
-    /// What writes down the clocks of a netlist from the clock `first` on, counted from 0. These are the latch values
-    /// before it.
-    pub fn make(flat: &Flat, first: u64, state: &Bits) -> Self
+    /// What writes down the clocks of a netlist from the clock `first` on, counted from 0, with so many outputs. These are the
+    /// latch values before it.
+    pub fn make(flat: &Flat, outputs: usize, first: u64, state: &Bits) -> Self
         requires { length state.now ≡ latch_count flat.now.cells }
         ensures clocks { result.clocks ≡ first }
-        ensures outputs { result.outputs ≡ length flat.now.outputs }
+        ensures outputs { result.outputs ≡ outputs }
         ensures latches { result.latches ≡ latch_count flat.now.cells }
     {
         TraceRecorder {
             clocks: first,
-            outputs: flat.outputs().len(),
+            outputs,
             latches: state.len(),
         }
     }

@@ -1,5 +1,5 @@
 //! The lines of a wave.
-ghost use Rattle.std.specs.Prelude.{◌≡◌, ◌<◌, ◌+◌, ◌++◌, ◌^◌, ℕ, List, length, IfOk, OnOk, Some};
+ghost use Rattle.std.specs.Prelude.{◌≡◌, ◌<◌, ◌≤◌, ◌+◌, ◌++◌, ◌^◌, ℕ, List, length, IfOk, OnOk, Some};
 ghost use Rattle.std.specs.List.{All};
 ghost use Rattle.vw_net.specs.Cells.{latch_count};
 ghost use Rattle.vw_net.specs.History.{History};
@@ -41,19 +41,25 @@ impl Drop for WaveRecorder {
 }
 
 impl WaveRecorder {
-    /// What writes down the clocks of a netlist from the clock `first` on, counted from 0. These are the latch values
-    /// before it. It takes memory for two bits of each signal.
-    pub fn make(alloc: Global, flat: &Flat, first: u64, state: &Bits) -> Result<Self, AllocError>
-        requires { length state.now ≡ latch_count flat.now.cells }
+    /// What writes down the clocks of a netlist from the clock `first` on, counted from 0, with so many of its outputs. These
+    /// are the latch values before it. It takes memory for two bits of each signal.
+    pub fn make(
+        alloc: Global,
+        flat: &Flat,
+        outputs: usize,
+        first: u64,
+        state: &Bits,
+    ) -> Result<Self, AllocError>
+        requires few { outputs ≤ length flat.now.outputs }
+        requires latches { length state.now ≡ latch_count flat.now.cells }
         ensures clock { IfOk result (λ recorder. recorder.wave.clock ≡ first) }
-        ensures outputs { IfOk result (λ recorder. recorder.outputs ≡ length flat.now.outputs) }
+        ensures outputs { IfOk result (λ recorder. recorder.outputs ≡ outputs) }
         ensures latches { IfOk result (λ recorder. recorder.latches ≡ latch_count flat.now.cells) }
         ensures fresh { IfOk result (λ recorder. (names : List (List ℕ)) (history : History)
             → length history.outputs ≡ length history.states
             → lines_text (lines_of_head names) ++ wave_left recorder.wave history
             ≡ wave_text_from first names (signal_rows history)) }
     {
-        let outputs = flat.outputs().len();
         let latches = state.len();
         let wave = Wave::make(alloc, first, (outputs + latches) as u32)?;
         let row = Bits::of(vec![in alloc; false; outputs + latches]?);

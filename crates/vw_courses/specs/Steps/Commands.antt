@@ -6,7 +6,6 @@ use Rattle.vw_courses.specs.declared.command.Command.TheVariants.{Plain, OnRunti
 use Rattle.vw_courses.specs.declared.command.GradeSettings.{GradeSettings}
 use Rattle.vw_courses.specs.declared.command.PlainCommand.{PlainCommand}
 use Rattle.vw_courses.specs.declared.command.PlainCommand.TheVariants as plain
-use Rattle.vw_courses.specs.declared.command.ReplayWords.{ReplayWords}
 use Rattle.vw_courses.specs.declared.command.RunWords.{RunWords}
 use Rattle.vw_courses.specs.declared.command.RuntimeCommand.{RuntimeCommand}
 use Rattle.vw_courses.specs.declared.command.RuntimeCommand.TheVariants as runtime
@@ -24,13 +23,13 @@ share_view settings = option_map (λ share. (share.number, share.shares)) settin
 -- a run by so many workers
 abbrev pub run_view : RunWords → ℕ → Spelled
 run_view its workers =
-    words.run its.design.now its.board.now its.stimulus.now (option_copied its.plan) workers its.unknown (take MOST_PROBES its.probes)
+    words.run its.design.now its.board.now its.stimulus.now (option_copied its.plan) workers its.unknown (option_copied its.until) (take MOST_PROBES its.probes)
 
 abbrev pub plain_view : PlainCommand → Spelled
-plain_view (plain.Sim design stimulus unknown probes) = words.sim design.now stimulus.now unknown (take MOST_PROBES probes)
-plain_view (plain.Wave design stimulus unknown probes) = words.wave design.now stimulus.now unknown (take MOST_PROBES probes)
-plain_view (plain.Replay its) = words.replay its.design.now its.stimulus.now its.state.now (take MOST_PROBES its.probes)
-plain_view (plain.ReplayWave its) = words.replay_wave its.design.now its.stimulus.now its.state.now (take MOST_PROBES its.probes)
+plain_view (plain.Sim design stimulus unknown until probes) = words.sim design.now stimulus.now unknown (option_copied until) (take MOST_PROBES probes)
+plain_view (plain.Wave design stimulus unknown until probes) = words.wave design.now stimulus.now unknown (option_copied until) (take MOST_PROBES probes)
+plain_view (plain.Replay its) = words.replay its.design.now its.stimulus.now its.state.now (option_copied its.until) (take MOST_PROBES its.probes)
+plain_view (plain.ReplayWave its) = words.replay_wave its.design.now its.stimulus.now its.state.now (option_copied its.until) (take MOST_PROBES its.probes)
 plain_view (plain.Nets design probes) = words.nets design.now (take MOST_PROBES probes)
 plain_view (plain.Check design board plan probes) = words.check design.now board.now plan.now (take MOST_PROBES probes)
 plain_view (plain.Plan design board chips probes) = words.plan design.now board.now (option_copied chips) (take MOST_PROBES probes)
@@ -46,10 +45,10 @@ abbrev pub runtime_view : RuntimeCommand → Spelled
 runtime_view (runtime.Grade design stimulus settings) =
     words.grade design.now stimulus.now settings.workers settings.unknown (share_view settings)
 runtime_view (runtime.Run its several) = run_view its several.workers
-runtime_view (runtime.Save design board stimulus plan workers unknown every) =
-    words.save design.now board.now stimulus.now (option_copied plan) workers unknown (option_map (λ interval. interval.clocks) every)
-runtime_view (runtime.Resume design board state stimulus plan workers probes) =
-    words.resume design.now board.now state.now stimulus.now (option_copied plan) workers (take MOST_PROBES probes)
+runtime_view (runtime.Save design board stimulus plan workers unknown every until) =
+    words.save design.now board.now stimulus.now (option_copied plan) workers unknown (option_map (λ interval. interval.clocks) every) (option_copied until)
+runtime_view (runtime.Resume design board state stimulus plan workers until probes) =
+    words.resume design.now board.now state.now stimulus.now (option_copied plan) workers (option_copied until) (take MOST_PROBES probes)
 runtime_view (runtime.Demo size several) = words.demo size.cells several.workers
 
 abbrev pub command_view : Command → Spelled

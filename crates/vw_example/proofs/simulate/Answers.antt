@@ -60,7 +60,7 @@ whole_line before after line err none some (inr (count, most, same)) =
 
 -- what the words spell
 abbrev its_sim : Spelled
-its_sim = words.sim (codes "design") (codes "stimulus") false []
+its_sim = words.sim (codes "design") (codes "stimulus") false None []
 
 spells_sim : spelled_by (codes "sim" ∷ codes "design" ∷ codes "stimulus" ∷ []) ≡ its_sim
 spells_sim = refl
@@ -142,4 +142,4 @@ returns c =
     let no_fault : c.alone.new.err.faults ≡ 0 = omega (arith, c.if-err-gt0.false) in
     outcome c.args.design.items c.args.stimulus.items c.in_ok-to_vec.field-0.items c.in_ok-to_vec-2.field-0.items call (record { its_held = both.design_held; stimulus_held = both.stimulus_held })
     (ap Some c.new-out.ensures.written) (ap Some out) (ap₂ seen_bytes c.new-err.ensures.written c.new-err.ensures.faults) (ap₂ seen_bytes err no_fault)
-    (c.sim_statuses.ensures [] (codes "design") (codes "stimulus") false call its_call) (c.call_statuses.ensures its_sim call its_call)
+    (c.sim_statuses.ensures [] None (codes "design") (codes "stimulus") false call its_call) (c.call_statuses.ensures its_sim call its_call)

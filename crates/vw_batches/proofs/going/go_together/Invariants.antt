@@ -12,7 +12,7 @@ invariant-loop-rows g l = record {
   fabric : l.floor.fabric.ghost_name ≡ l.fn.floor.fabric.ghost_name;
   workers : l.floor.workers ≡ l.fn.floor.workers;
   checked : l.board.job.checked ≡ l.fn.board.job.checked;
-  underway : IsUnderway
+  underway : IsUnderway l.until
       (HaveCarried l.fn.floor.workers (planned_of l.fn.board.job) l.fn.board.job.first l.fn.board.job.start (g.F.Fabric.carried l.fn.floor.fabric.now) (g.F.Fabric.carried l.floor.fabric.now))
       l.fn.rows l.rows (engine_of l.fn.board.job) (engine_of l.board.job) (g.R.Recorder.seen l.fn.recorder) (g.R.Recorder.seen l.recorder) (g.O.Sink.seen l.fn.out) (g.O.Sink.seen l.out);
 }

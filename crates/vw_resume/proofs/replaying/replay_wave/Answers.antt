@@ -3,9 +3,9 @@ use Rattle.std.proofs.lemmas.Result.{err_from_is_err_and}
 use Rattle.vw_rows.specs.declared.fault.StimFault.{StimFault}
 use Rattle.vw_trace.specs.Streamed.{clocks_left}
 use Rattle.vw_trace.proofs.StreamedTexts.{streams_as}
-use Rattle.vw_wave.specs.FlatWave.{wave_from}
+use Rattle.vw_wave.specs.FlatWave.{wave_until}
 use Rattle.vw_wave.proofs.MergedWaves.{same_wave_from}
-use Rattle.vw_resume.specs.Resumed.{replayed_wave}
+use Rattle.vw_resume.specs.Resumed.{replayed_wave_until}
 use Rattle.vw_resume.proofs.PassedRows.{behind_passed, not_passed}
 use Rattle.vw_resume.proofs.replaying.replay_wave.Goals as goal
 
@@ -15,7 +15,7 @@ returns-in_err-pass_over-clause-streams g c =
     let e = c.in_err-pass_over.ensures in
     let out = g.O.Sink.seen c.args.out.now in
     rw (p.1, p.2)
-    (not_passed (replayed_wave c.args.names.now c.args.ordered.now.flat c.args.state.clock c.args.state.latches) c.args.rows.now c.args.rows.now c.pass_over.new.rows out out c.in_err-pass_over.field-0.0 e.shelf
+    (not_passed (replayed_wave_until c.args.until c.args.names.now c.args.ordered.now.flat c.args.state.clock c.args.state.latches) c.args.rows.now c.args.rows.now c.pass_over.new.rows out out c.in_err-pass_over.field-0.0 e.shelf
     (λ same. e.fault (ap (λ (fault : StimFault). Err fault) same)) (λ differs. e.kept (λ same. differs (let is = same in cc))) e.sure)
 
 pub returns-in-Some-clause-streams : goal.returns-in-Some-clause-streams
@@ -24,9 +24,9 @@ returns-in-Some-clause-streams g c =
     let flat = c.args.ordered.now.flat in
     let old = c.args.rows.now.stimulus.now in
     let few : c.args.state.clock ≤ clocks_left old = omega (arith, c.requires.clocks, c.requires.start) in
-    behind_passed (wave_from c.args.names.now c.args.state.clock c.args.state.latches flat) c.args.rows.now c.pass_over.new.rows c.wave_on.new.rows (g.O.Sink.seen c.args.out.now) (g.O.Sink.seen c.wave_on.new.out)
+    behind_passed (wave_until c.args.until c.args.names.now c.args.state.clock c.args.state.latches flat) c.args.rows.now c.pass_over.new.rows c.wave_on.new.rows (g.O.Sink.seen c.args.out.now) (g.O.Sink.seen c.wave_on.new.out)
     c.args.state.clock c.wave_on.result few e.shelf (e.kept (λ wrong. let is = wrong in cc)) e.gave
-    (streams_as (λ these. same_wave_from c.args.names.now c.args.state.clock c.args.state.latches flat c.in-Some.merged.flat these c.in-Some.ensures) (λ these done. tt) c.wave_on.ensures)
+    (streams_as (λ these. same_wave_from c.args.until c.args.names.now c.args.state.clock c.args.state.latches flat c.in-Some.merged.flat these c.in-Some.ensures) (λ these done. tt) c.wave_on.ensures)
 
 pub returns-in-None-clause-streams : goal.returns-in-None-clause-streams
 returns-in-None-clause-streams g c =
@@ -34,5 +34,5 @@ returns-in-None-clause-streams g c =
     let flat = c.args.ordered.now.flat in
     let old = c.args.rows.now.stimulus.now in
     let few : c.args.state.clock ≤ clocks_left old = omega (arith, c.requires.clocks, c.requires.start) in
-    behind_passed (wave_from c.args.names.now c.args.state.clock c.args.state.latches flat) c.args.rows.now c.pass_over.new.rows c.wave_on-in-None.new.rows (g.O.Sink.seen c.args.out.now) (g.O.Sink.seen c.wave_on-in-None.new.out)
+    behind_passed (wave_until c.args.until c.args.names.now c.args.state.clock c.args.state.latches flat) c.args.rows.now c.pass_over.new.rows c.wave_on-in-None.new.rows (g.O.Sink.seen c.args.out.now) (g.O.Sink.seen c.wave_on-in-None.new.out)
     c.args.state.clock c.wave_on-in-None.result few e.shelf (e.kept (λ wrong. let is = wrong in cc)) e.gave c.wave_on-in-None.ensures

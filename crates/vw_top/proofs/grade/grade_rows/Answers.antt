@@ -47,7 +47,7 @@ returns-in_err-put_text-clause-streams g c =
     let text = flat_grading (share_view c.args.settings) names c.args.settings.unknown flat in
     let made = subst (λ (start : List Bool). IfOk c.graded_text-text.result (λ its. its.items ≡ graded_text (share_view c.args.settings) names flat start rows)) (starts g at.In_ok-start) c.graded_text-text.ensures in
     rw (p.1, p.2)
-    (not_written c.args.again.now c.next_batch.new.self read.shelf text (g.O.Sink.seen c.args.out.now) rows 4294967295 c.args.again.now.stimulus.now.few (read.kept (λ wrong. let is = wrong in cc)) read.rows read.width read.count read.gave (g.O.Sink.seen c.put_text.new.out) c.in_err-put_text.field-0.0 (c.in_err-put_text.ensures (text rows) made))
+    (not_written c.args.again.now c.next_batch.new.self read.shelf text (g.O.Sink.seen c.args.out.now) rows 4294967295 c.args.again.now.stimulus.now.few (read.kept (λ wrong. let is = wrong in cc)) read.rows read.width read.count (g.O.Sink.seen c.put_text.new.out) c.in_err-put_text.field-0.0 (c.in_err-put_text.ensures (text rows) made))
 
 pub returns-clause-streams : goal.returns-clause-streams
 returns-clause-streams g c =
@@ -58,4 +58,4 @@ returns-clause-streams g c =
     let read = c.in_ok-rows.ensures in
     let text = flat_grading (share_view c.args.settings) names c.args.settings.unknown flat in
     let made = subst (λ (start : List Bool). IfOk c.graded_text-text.result (λ its. its.items ≡ graded_text (share_view c.args.settings) names flat start rows)) (starts g at.In_ok-start) c.graded_text-text.ensures in
-    whole_written c.args.again.now c.next_batch.new.self read.shelf text (g.O.Sink.seen c.args.out.now) rows 4294967295 c.args.again.now.stimulus.now.few (read.kept (λ wrong. let is = wrong in cc)) read.rows read.width read.count read.gave (g.O.Sink.seen c.put_text.new.out) (c.in_ok-put_text.ensures (text rows) made)
+    whole_written c.args.again.now c.next_batch.new.self read.shelf text (g.O.Sink.seen c.args.out.now) rows 4294967295 c.args.again.now.stimulus.now.few (read.kept (λ wrong. let is = wrong in cc)) read.rows read.width read.count (g.O.Sink.seen c.put_text.new.out) (c.in_ok-put_text.ensures (text rows) made)

@@ -9,7 +9,7 @@ use Rattle.vw_courses.specs.declared.vocabulary.Reason.{Reason}
 use Rattle.vw_courses.specs.declared.vocabulary.Reason.TheVariants as reasons
 use Rattle.vw_courses.specs.Messages.{vocabulary}
 use Rattle.vw_courses.specs.Kinds.{clocks_reach}
-use Rattle.vw_courses.specs.Commands.{RowCheck, check_by, netlist_replayed_wave, no_links, reached_course}
+use Rattle.vw_courses.specs.Commands.{RowCheck, check_by, netlist_replayed_wave_until, no_links, reached_course}
 use Rattle.vw_top.proofs.StreamedTraces.{goes_unchecked, goes_failing, goes_streaming, no_parts, without_links}
 use Rattle.vw_top.proofs.replay_wave.wave_rows.Goals as goal
 
@@ -19,7 +19,7 @@ returns-in_err-rows g c =
     let flat = c.args.ordered.now.flat in
     let state = c.args.state in
     rw (p.1, p.2)
-    (goes_unchecked g.S.Shelf.seen g.O.Sink.seen Unmoved c.args.stimulus.now flat.inputs (check_by (clocks_reach state.clock)) (netlist_replayed_wave c.args.names.now flat state) no_links
+    (goes_unchecked g.S.Shelf.seen g.O.Sink.seen Unmoved c.args.stimulus.now flat.inputs (check_by (clocks_reach state.clock)) (netlist_replayed_wave_until c.args.until c.args.names.now flat state) no_links
     c.args.outside.now _ (record { shelf = refl; out = refl }) refl (unmoved_still vocabulary) c.in_err-rows.field-0.0 c.in_err-rows.ensures.judges)
 
 -- the stimulus doesn't reach the state's clock
@@ -32,8 +32,8 @@ returns-in_err-clocks_reach g c =
     let e = c.in_err-clocks_reach.ensures in
     let reason : ℕ → Reason = λ clocks. reasons.State (TooFewClocks clocks state.clock) in
     rw (p.1, p.2)
-    (subst (λ (unfinished : Unfinished File Reason). Goes g.S.Shelf.seen g.O.Sink.seen vocabulary (reached_course c.args.stimulus.now flat.inputs (netlist_replayed_wave c.args.names.now flat) state) c.args.outside.now mid (Err unfinished)) (sym e.0)
-    (goes_failing g.S.Shelf.seen g.O.Sink.seen Unmoved c.args.stimulus.now flat.inputs (check_by (clocks_reach state.clock)) (netlist_replayed_wave c.args.names.now flat state) no_links
+    (subst (λ (unfinished : Unfinished File Reason). Goes g.S.Shelf.seen g.O.Sink.seen vocabulary (reached_course c.args.stimulus.now flat.inputs (netlist_replayed_wave_until c.args.until c.args.names.now flat) state) c.args.outside.now mid (Err unfinished)) (sym e.0)
+    (goes_failing g.S.Shelf.seen g.O.Sink.seen Unmoved c.args.stimulus.now flat.inputs (check_by (clocks_reach state.clock)) (netlist_replayed_wave_until c.args.until c.args.names.now flat state) no_links
     c.args.outside.now mid (record { shelf = refl; out = refl }) refl (unmoved_still vocabulary) c.in_ok-rows.rows (reason c.clocks.result) c.in_ok-rows.ensures.judges c.in_ok-rows.ensures.starts
     (λ all counted.
     let same : c.clocks.result ≡ length all = c.clocks.ensures ∙ sym counted in
@@ -44,7 +44,7 @@ returns g c =
     let flat = c.args.ordered.now.flat in
     let state = c.args.state in
     let check : RowCheck = check_by (clocks_reach state.clock) in
-    let text : List (List Bool) → List ℕ = netlist_replayed_wave c.args.names.now flat state in
+    let text : List (List Bool) → List ℕ = netlist_replayed_wave_until c.args.until c.args.names.now flat state in
     let mid = record c.args.outside.now { shelf = record c.args.outside.now.shelf { now = c.check_rows.new.shelf } } in
     rw c.run_answer.ensures
     (goes_streaming g.S.Shelf.seen g.O.Sink.seen Unmoved c.args.stimulus.now flat.inputs check text no_links c.args.outside.now mid (record { shelf = refl; out = refl }) refl

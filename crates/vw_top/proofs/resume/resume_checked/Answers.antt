@@ -22,7 +22,7 @@ returns-in_err-state-clause-goes g c =
     let same : c.latch_count-latches.result ≡ latch_count checked.ordered.flat.cells =
     c.latch_count-latches.ensures ∙ ap latch_count (c.cells.ensures ∙ ap (λ (flat : Flat). flat.cells) (c.flat.ensures ∙ ap (λ (one : Ordered). one.flat) c.ordered.ensures)) in
     rw (p.1, p.2)
-    (goes_not_on g.S.Shelf.seen g.O.Sink.seen vocabulary (MovedFrom links links) (state_kind (latch_count checked.ordered.flat.cells)) c.args.state.now (state_course c.args.probes c.args.stimulus.now c.args.floor.now.workers planned)
+    (goes_not_on g.S.Shelf.seen g.O.Sink.seen vocabulary (MovedFrom links links) (state_kind (latch_count checked.ordered.flat.cells)) c.args.state.now (state_course c.args.until c.args.probes c.args.stimulus.now c.args.floor.now.workers planned)
     (λ before after moved. moved.1 ∙ sym moved.0) c.in_err-state.field-0.0 (record { shelf = refl; out = refl }) refl
     (subst (λ (latches : ℕ). EndsStage files.State c.args.state.now (IsStateOf latches) (IsBadState latches) (g.S.Shelf.seen c.args.outside.now.shelf.now) (g.S.Shelf.seen c.read_state.new.shelf) (Err c.in_err-state.field-0.0)) same c.in_err-state.ensures))
 
@@ -33,6 +33,6 @@ returns-clause-goes g c =
     let Moved = MovedFrom (g.F.Fabric.carried c.args.floor.now.fabric.now) (g.F.Fabric.carried c.resume_state.new.floor.fabric.now) in
     let same : c.latch_count-latches.result ≡ latch_count checked.ordered.flat.cells =
     c.latch_count-latches.ensures ∙ ap latch_count (c.cells.ensures ∙ ap (λ (flat : Flat). flat.cells) (c.flat.ensures ∙ ap (λ (one : Ordered). one.flat) c.ordered.ensures)) in
-    goes_on g.S.Shelf.seen g.O.Sink.seen vocabulary Moved (state_kind (latch_count checked.ordered.flat.cells)) c.args.state.now (state_course c.args.probes c.args.stimulus.now c.args.floor.now.workers planned)
+    goes_on g.S.Shelf.seen g.O.Sink.seen vocabulary Moved (state_kind (latch_count checked.ordered.flat.cells)) c.args.state.now (state_course c.args.until c.args.probes c.args.stimulus.now c.args.floor.now.workers planned)
     c.in_ok-state.state (record { shelf = refl; out = refl }) refl
     (subst (λ (latches : ℕ). EndsStage files.State c.args.state.now (IsStateOf latches) (IsBadState latches) (g.S.Shelf.seen c.args.outside.now.shelf.now) (g.S.Shelf.seen c.read_state.new.shelf) (Ok c.in_ok-state.state)) same c.in_ok-state.ensures) c.resume_state.ensures.goes

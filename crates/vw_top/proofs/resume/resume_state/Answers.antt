@@ -3,8 +3,7 @@ use Rattle.std.proofs.lemmas.Result.{err_from_is_err_and}
 use Rattle.vw_course.specs.declared.unfinished.Unfinished.{Unfinished}
 use Rattle.vw_course.specs.Goes.{GoesOver, MovedFrom}
 use Rattle.vw_plan.specs.PlannedBoard.{planned_board}
-use Rattle.vw_resume.specs.Resumed.{without_state}
-use Rattle.vw_trace.specs.FlatTrace.{trace_from}
+use Rattle.vw_trace.specs.FlatTrace.{trace_until}
 use Rattle.vw_resume.specs.declared.fault.StateFault.TheVariants.{TooManyClocks}
 use Rattle.vw_rows.specs.declared.limits.TheConstants.{MOST_CLOCKS}
 use Rattle.vw_courses.specs.declared.vocabulary.File.{File}
@@ -26,7 +25,7 @@ returns-in_err-rows-clause-goes g c =
     let state = c.args.state in
     let links = g.F.Fabric.carried c.args.floor.now.fabric.now in
     rw (p.1, p.2)
-    (goes_unchecked g.S.Shelf.seen g.O.Sink.seen (MovedFrom links links) c.args.stimulus.now flat.inputs (check_by (clocks_fit state.clock)) (trace_from c.args.probes state.clock state.latches flat) (scripts_from c.args.floor.now.workers planned state.clock state.latches)
+    (goes_unchecked g.S.Shelf.seen g.O.Sink.seen (MovedFrom links links) c.args.stimulus.now flat.inputs (check_by (clocks_fit state.clock)) (trace_until c.args.until c.args.probes state.clock state.latches flat) (scripts_from c.args.until c.args.floor.now.workers planned state.clock state.latches)
     c.args.outside.now _ (record { shelf = refl; out = refl }) refl (λ before after moved. moved.1 ∙ sym moved.0) c.in_err-rows.field-0.0 c.in_err-rows.ensures.judges)
 
 -- there are too many clocks
@@ -42,8 +41,8 @@ returns-in_err-clocks_fit-clause-goes g c =
     let e = c.in_err-clocks_fit.ensures in
     let reason : ℕ → Reason = λ clocks. reasons.State (TooManyClocks (state.clock + clocks)) in
     rw (p.1, p.2)
-    (subst (λ (unfinished : Unfinished File Reason). GoesOver g.S.Shelf.seen g.O.Sink.seen vocabulary (MovedFrom links links) (state_course c.args.probes c.args.stimulus.now c.args.floor.now.workers planned state) c.args.outside.now mid (Err unfinished)) (sym e.0)
-    (goes_failing g.S.Shelf.seen g.O.Sink.seen (MovedFrom links links) c.args.stimulus.now flat.inputs (check_by (clocks_fit state.clock)) (trace_from c.args.probes state.clock state.latches flat) (scripts_from c.args.floor.now.workers planned state.clock state.latches)
+    (subst (λ (unfinished : Unfinished File Reason). GoesOver g.S.Shelf.seen g.O.Sink.seen vocabulary (MovedFrom links links) (state_course c.args.until c.args.probes c.args.stimulus.now c.args.floor.now.workers planned state) c.args.outside.now mid (Err unfinished)) (sym e.0)
+    (goes_failing g.S.Shelf.seen g.O.Sink.seen (MovedFrom links links) c.args.stimulus.now flat.inputs (check_by (clocks_fit state.clock)) (trace_until c.args.until c.args.probes state.clock state.latches flat) (scripts_from c.args.until c.args.floor.now.workers planned state.clock state.latches)
     c.args.outside.now mid (record { shelf = refl; out = refl }) refl (λ before after moved. moved.1 ∙ sym moved.0) c.in_ok-rows.rows (reason c.clocks.result) c.in_ok-rows.ensures.judges c.in_ok-rows.ensures.starts
     (λ all counted.
     let same : c.clocks.result ≡ length all = c.clocks.ensures ∙ sym counted in
@@ -57,15 +56,15 @@ returns-clause-goes g c =
     let state = c.args.state in
     let workers = c.args.floor.now.workers in
     let check : RowCheck = check_by (clocks_fit state.clock) in
-    let text : List (List Bool) → List ℕ = trace_from c.args.probes state.clock state.latches flat in
-    let scripts : ℕ → Scripts = λ count. scripts_from count planned state.clock state.latches in
+    let text : List (List Bool) → List ℕ = trace_until c.args.until c.args.probes state.clock state.latches flat in
+    let scripts : ℕ → Scripts = λ count. scripts_from c.args.until count planned state.clock state.latches in
     let mid = record c.args.outside.now { shelf = record c.args.outside.now.shelf { now = c.check_rows.new.shelf } } in
     let first = g.F.Fabric.carried c.args.floor.now.fabric.now in
     let last = g.F.Fabric.carried c.run_watched_from-ran.new.floor.fabric.now in
     let Moved = MovedFrom first last in
     let fit = c.in_ok-clocks_fit.ensures in
-    rw c.state_answer.ensures
+    rw c.run_answer.ensures
     (goes_streaming g.S.Shelf.seen g.O.Sink.seen Moved c.args.stimulus.now flat.inputs check text (scripts workers) c.args.outside.now mid (record { shelf = refl; out = refl }) refl
-    _ _ (parts_from planned state.clock state.latches workers) _ (without_state c.run_watched_from-ran.result) (record { shelf = refl; out = refl }) c.in_ok-rows.ensures.judges c.in_ok-rows.ensures.starts
+    _ _ (parts_from planned state.clock state.latches c.args.until workers) _ c.run_watched_from-ran.result (record { shelf = refl; out = refl }) c.in_ok-rows.ensures.judges c.in_ok-rows.ensures.starts
     (λ all counted. subst (λ (clocks : ℕ). state.clock + clocks ≤ MOST_CLOCKS) (c.clocks.ensures ∙ sym counted) fit)
-    (λ links links_after moved some done. over_links (scripts workers) links links_after moved some done.0) refl refl c.run_watched_from-ran.ensures.streams)
+    (over_links (scripts workers)) refl refl c.run_watched_from-ran.ensures.streams)

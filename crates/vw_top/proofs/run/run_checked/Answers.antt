@@ -2,10 +2,9 @@ use Rattle.std.proofs.Common.{refl}
 use Rattle.std.proofs.lemmas.Result.{err_from_is_err_and}
 use Rattle.vw_course.specs.Goes.{Unmoved}
 use Rattle.vw_course.proofs.GoesLaws.{unmoved_still}
-use Rattle.vw_batches.specs.Runs.{without_count}
-use Rattle.vw_trace.specs.FlatTrace.{flat_trace}
+use Rattle.vw_trace.specs.FlatTrace.{flat_trace_until}
 use Rattle.vw_courses.specs.Messages.{vocabulary}
-use Rattle.vw_courses.specs.Commands.{netlist_trace, no_links, no_check}
+use Rattle.vw_courses.specs.Commands.{netlist_trace_until, no_links, no_check}
 use Rattle.vw_top.proofs.StreamedTraces.{goes_unchecked, goes_streaming, no_parts, without_links}
 use Rattle.vw_top.proofs.LinkTraffic.{goes_alone}
 use Rattle.vw_top.proofs.run.run_checked.Goals as goal
@@ -16,8 +15,8 @@ returns-in_err-rows g c = λ workers few.
     let checked = c.args.checked in
     let ordered = checked.ordered in
     rw (p.1, p.2)
-    (goes_alone g.S.Shelf.seen g.O.Sink.seen Unmoved c.args.stimulus.now c.args.unknown ordered checked.board checked.plan (netlist_trace c.args.probes c.args.unknown) workers few
-    (goes_unchecked g.S.Shelf.seen g.O.Sink.seen Unmoved c.args.stimulus.now ordered.flat.inputs no_check (flat_trace c.args.probes c.args.unknown ordered.flat) no_links c.args.outside.now _ (record { shelf = refl; out = refl }) refl
+    (goes_alone g.S.Shelf.seen g.O.Sink.seen Unmoved c.args.stimulus.now c.args.unknown ordered checked.board checked.plan (netlist_trace_until c.args.until c.args.probes c.args.unknown) c.args.until workers few
+    (goes_unchecked g.S.Shelf.seen g.O.Sink.seen Unmoved c.args.stimulus.now ordered.flat.inputs no_check (flat_trace_until c.args.until c.args.probes c.args.unknown ordered.flat) no_links c.args.outside.now _ (record { shelf = refl; out = refl }) refl
     (unmoved_still vocabulary) c.in_err-rows.field-0.0 c.in_err-rows.ensures.judges))
 
 pub returns : goal.returns
@@ -25,7 +24,7 @@ returns g c = λ workers few.
     let checked = c.args.checked in
     let ordered = checked.ordered in
     let mid = record c.args.outside.now { shelf = record c.args.outside.now.shelf { now = c.check_rows.new.shelf } } in
-    rw c.clocks_answer.ensures
-    (goes_alone g.S.Shelf.seen g.O.Sink.seen Unmoved c.args.stimulus.now c.args.unknown ordered checked.board checked.plan (netlist_trace c.args.probes c.args.unknown) workers few
-    (goes_streaming g.S.Shelf.seen g.O.Sink.seen Unmoved c.args.stimulus.now ordered.flat.inputs no_check (flat_trace c.args.probes c.args.unknown ordered.flat) no_links c.args.outside.now mid (record { shelf = refl; out = refl }) refl
-    _ _ no_parts _ (without_count c.run_alone-ran.result) (record { shelf = refl; out = refl }) c.in_ok-rows.ensures.judges c.in_ok-rows.ensures.starts (λ all counted. tt) (without_links (λ these. Unit {0})) refl refl c.run_alone-ran.ensures.streams))
+    rw c.run_answer.ensures
+    (goes_alone g.S.Shelf.seen g.O.Sink.seen Unmoved c.args.stimulus.now c.args.unknown ordered checked.board checked.plan (netlist_trace_until c.args.until c.args.probes c.args.unknown) c.args.until workers few
+    (goes_streaming g.S.Shelf.seen g.O.Sink.seen Unmoved c.args.stimulus.now ordered.flat.inputs no_check (flat_trace_until c.args.until c.args.probes c.args.unknown ordered.flat) no_links c.args.outside.now mid (record { shelf = refl; out = refl }) refl
+    _ _ no_parts _ c.run_alone-ran.result (record { shelf = refl; out = refl }) c.in_ok-rows.ensures.judges c.in_ok-rows.ensures.starts (λ all counted. tt) (without_links (λ these. Unit {0})) refl refl c.run_alone-ran.ensures.streams))

@@ -4,7 +4,7 @@ use Rattle.vw_net.specs.Cells.{start_values}
 use Rattle.vw_course.specs.Goes.{MovedFrom}
 use Rattle.vw_plan.specs.PlannedBoard.{planned_board}
 use Rattle.vw_courses.specs.declared.command.Interval.{Interval}
-use Rattle.vw_courses.specs.Commands.{board_scripts, netlist_state, no_check, texts_kept}
+use Rattle.vw_courses.specs.Commands.{board_scripts, netlist_counted, netlist_state, no_check, texts_kept}
 use Rattle.vw_top.proofs.StreamedTraces.{goes_unchecked, goes_streaming, over_links}
 use Rattle.vw_top.proofs.LinkTraffic.{parts_from}
 use Rattle.vw_top.proofs.save.save_checked.Goals as goal
@@ -16,7 +16,7 @@ returns-in_err-rows-clause-goes g c =
     let ordered = checked.ordered in
     let links = g.F.Fabric.carried c.args.floor.now.fabric.now in
     rw (p.1, p.2)
-    (goes_unchecked g.S.Shelf.seen g.O.Sink.seen (MovedFrom links links) c.args.stimulus.now ordered.flat.inputs no_check (texts_kept (option_map (λ (interval : Interval). interval.clocks) c.args.every) (netlist_state c.args.unknown) ordered) (board_scripts c.args.floor.now.workers c.args.unknown (planned_board ordered checked.board checked.plan))
+    (goes_unchecked g.S.Shelf.seen g.O.Sink.seen (MovedFrom links links) c.args.stimulus.now ordered.flat.inputs no_check (netlist_counted c.args.until c.args.unknown (texts_kept (option_map (λ (interval : Interval). interval.clocks) c.args.every) (netlist_state c.args.unknown)) ordered) (board_scripts c.args.until c.args.floor.now.workers c.args.unknown (planned_board ordered checked.board checked.plan))
     c.args.outside.now _ (record { shelf = refl; out = refl }) refl (λ before after moved. moved.1 ∙ sym moved.0) c.in_err-rows.field-0.0 c.in_err-rows.ensures.judges)
 
 pub returns-clause-goes : goal.returns-clause-goes
@@ -28,6 +28,6 @@ returns-clause-goes g c =
     let mid = record c.args.outside.now { shelf = record c.args.outside.now.shelf { now = c.check_rows.new.shelf } } in
     let Moved = MovedFrom (g.F.Fabric.carried c.args.floor.now.fabric.now) (g.F.Fabric.carried c.write_states-saved.new.floor.fabric.now) in
     rw c.run_answer.ensures
-    (goes_streaming g.S.Shelf.seen g.O.Sink.seen Moved c.args.stimulus.now ordered.flat.inputs no_check (texts_kept (option_map (λ (interval : Interval). interval.clocks) c.args.every) (netlist_state c.args.unknown) ordered) (board_scripts workers c.args.unknown planned) c.args.outside.now mid (record { shelf = refl; out = refl }) refl
-    _ _ (parts_from planned 0 (start_values c.args.unknown ordered.flat.cells) workers) _ c.write_states-saved.result (record { shelf = refl; out = refl }) c.in_ok-rows.ensures.judges c.in_ok-rows.ensures.starts (λ all counted. tt)
-    (over_links (board_scripts workers c.args.unknown planned)) refl refl c.write_states-saved.ensures.streams)
+    (goes_streaming g.S.Shelf.seen g.O.Sink.seen Moved c.args.stimulus.now ordered.flat.inputs no_check (netlist_counted c.args.until c.args.unknown (texts_kept (option_map (λ (interval : Interval). interval.clocks) c.args.every) (netlist_state c.args.unknown)) ordered) (board_scripts c.args.until workers c.args.unknown planned) c.args.outside.now mid (record { shelf = refl; out = refl }) refl
+    _ _ (parts_from planned 0 (start_values c.args.unknown ordered.flat.cells) c.args.until workers) _ c.write_states-saved.result (record { shelf = refl; out = refl }) c.in_ok-rows.ensures.judges c.in_ok-rows.ensures.starts (λ all counted. tt)
+    (over_links (board_scripts c.args.until workers c.args.unknown planned)) refl refl c.write_states-saved.ensures.streams)

@@ -1,4 +1,4 @@
-use Rattle.std.proofs.Common.{◌≡◌, ◌++◌, ◌∙◌, List, length, drop, ap, ap₂}
+use Rattle.std.proofs.Common.{◌≡◌, ◌+◌, ◌++◌, ◌∙◌, List, length, drop, ap, ap₂}
 use Rattle.vw_net.specs.declared.cell.Cell.{Cell}
 use Rattle.vw_net.specs.declared.flat.Flat.{Flat}
 use Rattle.vw_design.specs.Paths.{Word}
@@ -20,8 +20,8 @@ written c =
     (c.in_ok-push_latches.ensures ∙ ap₂ (λ (made : List Cell) (names : List Word). c.push_names-2.new.names.items ++ latch_names made names) cells c.driven.ensures)
 
 pub returns-clause-names : goal.returns-clause-names
-returns-clause-names c = λ text is. written (goal.at.returns-clause-names c).In_ok-push_latches ∙ signals_are c.args.probes.now text c.args.self.now is
+returns-clause-names c = λ watched text is. written (goal.at.returns-clause-names c).In_ok-push_latches ∙ signals_are watched text c.args.self.now is c.args.probes.now
 
 pub returns-clause-count : goal.returns-clause-count
-returns-clause-count c = λ text is.
-    ap (λ (names : List Word). length names) (written (goal.at.returns-clause-count c).In_ok-push_latches) ∙ signals_counted c.args.probes.now text c.args.self.now is
+returns-clause-count c = λ watched text is.
+    ap (λ (names : List Word). length names + length watched) (written (goal.at.returns-clause-count c).In_ok-push_latches) ∙ signals_counted watched text c.args.self.now is c.args.probes.now

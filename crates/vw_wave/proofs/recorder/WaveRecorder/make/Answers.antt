@@ -1,4 +1,4 @@
-use Rattle.std.proofs.Common.{◌≡◌, ◌<◌, ◌+◌, ◌^◌, ◌∙◌, ℕ, List, length, ap, arith}
+use Rattle.std.proofs.Common.{◌≡◌, ◌<◌, ◌≤◌, ◌+◌, ◌^◌, ◌∙◌, ℕ, length, arith}
 use Rattle.vw_net.specs.declared.flat.Flat.{Flat}
 use Rattle.vw_net.specs.Cells.{latch_count}
 use Rattle.vw_net.proofs.Counts.{latch_count-le}
@@ -6,14 +6,14 @@ use Rattle.vw_wave.proofs.WaveLeft.{fresh_wave}
 use Rattle.vw_wave.proofs.recorder.WaveRecorder.make.Goals as goal
 
 -- a netlist has few outputs and few latches
-few : (flat : Flat) (outputs : List ℕ) (latches : ℕ) → outputs ≡ flat.outputs → latches ≡ latch_count flat.cells → length outputs + latches < 2 ^ 32
-few flat outputs latches same latch = omega (arith, ap (λ (nets : List ℕ). length nets) same, latch, latch_count-le flat.cells, flat.few_cells, flat.few_outputs)
+few : (flat : Flat) (outputs latches : ℕ) → outputs ≤ length flat.outputs → latches ≡ latch_count flat.cells → outputs + latches < 2 ^ 32
+few flat outputs latches fewer latch = omega (arith, fewer, latch, latch_count-le flat.cells, flat.few_cells, flat.few_outputs)
 
 pub overflow_add-outputs : goal.overflow_add-outputs
-overflow_add-outputs c = omega (arith, few c.args.flat.now c.outputs-outputs.result.now c.len-latches.result c.outputs-outputs.ensures (c.len-latches.ensures ∙ c.requires))
+overflow_add-outputs c = omega (arith, few c.args.flat.now c.args.outputs c.len-latches.result c.requires.few (c.len-latches.ensures ∙ c.requires.latches))
 
 pub overflow_cast-outputs : goal.overflow_cast-outputs
-overflow_cast-outputs c = omega (arith, few c.args.flat.now c.outputs-outputs.result.now c.len-latches.result c.outputs-outputs.ensures (c.len-latches.ensures ∙ c.requires))
+overflow_cast-outputs c = omega (arith, few c.args.flat.now c.args.outputs c.len-latches.result c.requires.few (c.len-latches.ensures ∙ c.requires.latches))
 
 -- behind a head it has the whole wave left
 pub returns-clause-fresh : goal.returns-clause-fresh
