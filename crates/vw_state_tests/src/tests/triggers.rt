@@ -8,6 +8,7 @@ const TRIGGERED: &[(&str, &str)] = &[
     ("b", TRIANGLE),
     ("s", "1\n1\n0\n"),
     ("z", "0\n0\n"),
+    ("l", "0\n1\n"),
     ("e", ""),
     ("w", "1\n11\n"),
     ("t1", STATE),
@@ -28,7 +29,15 @@ fn a_trace_ends_behind_the_first_clock_of_its_trigger(rt: HostRuntime) -> Result
         (&["run", "d", "b", "s", "until=d", "workers=1"], FIRST),
         (&["run", "d", "b", "s", "until=q", "workers=1"], SECOND),
         (&["run", "d", "b", "s", "until=q", "workers=3"], SECOND),
-        // never, and over no row
+        // in the last clock, never, and over no row
+        (
+            &["sim", "d", "l", "until=d"],
+            "trace 1 1 1\n0 0 0\n1 0 0\nend 2 1\n",
+        ),
+        (
+            &["run", "d", "b", "l", "until=d", "workers=3"],
+            "trace 1 1 1\n0 0 0\n1 0 0\nend 2 1\n",
+        ),
         (
             &["sim", "d", "z", "until=q"],
             "trace 1 1 1\n0 0 0\n1 0 0\nend 2 0\n",
