@@ -56,7 +56,7 @@ class Completion(Case):
             (["s"], ["save", "sim"]),
             (["--v"], ["--version"]),
             (["run", "tog"], ["toggle.blif", "toggle.plan"]),
-            (["run", "d", "b", "s", "un"], ["unknown="]),
+            (["run", "d", "b", "s", "un"], ["unknown=", "until="]),
             (["run", "d", "b", "s", "unknown", "="], ["0", "1"]),
             (["run", "d", "b", "s", "unknown", "=", "1"], ["1"]),
             (["run", "d", "b", "s", "plan", "=", "toggle.p"], ["toggle.plan"]),
